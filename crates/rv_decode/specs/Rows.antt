@@ -2,6 +2,7 @@
 use Rattle.std.specs.Prelude.{ℕ, zero, suc, ◌≡◌, ◌⊎◌, List, [], ◌∷◌, Bool, true, cond, nat_eq, ◌&&◌, Option, None, Some}
 use Rattle.ctr_bits.specs.Field.{field_of}
 use Rattle.rv_decode.specs.declared.instruction.Instr.{Instr}
+pub use Rattle.rv_decode.specs.Numbers.{NumbersFit}
 use Rattle.rv_decode.specs.Table.{Test, Rule, table}
 
 -- the word passes every test

@@ -13,3 +13,6 @@ pub use instruction::{CsrArg, Instr};
 pub use laws::table_laws;
 pub use operations::{AluOp, Cond, CsrOp, Width};
 pub use words::decode;
+
+#[cfg(test)]
+mod tests;
