@@ -1,0 +1,6 @@
+pub mod Counts
+pub mod Given
+pub mod Appended
+pub mod Script
+pub mod Memory
+pub mod Std
