@@ -1,11 +1,14 @@
 -- Which fields a sample has (perf_event.h, sample_type), and which samples a layout can hold.
-use Rattle.std.specs.Prelude.{◌≡◌, ◌≢◌, ℕ, ◌+◌, ◌/◌, ◌%◌, ◌^◌, ◌<◌, Bool, false, if◌then◌else◌, nat_eq, bit_and, List, All}
+use Rattle.std.specs.Prelude.{◌≡◌, ℕ, ◌+◌, ◌/◌, ◌%◌, ◌^◌, ◌<◌, Bool, true, false, not, ◌&&◌, if◌then◌else◌, nat_eq, bit_and, List, All}
 use Rattle.perf_sample.specs.declared.sample.Branch.{Branch}
 use Rattle.perf_sample.specs.declared.sample.Sample.{Sample}
 
 -- no bit but those of the ten fields that are known here, and the branch stack among them
+abbrev pub is_layout : ℕ → Bool
+is_layout bits = nat_eq (bit_and bits 0x10BCF) bits && not (nat_eq (bit_and bits 0x800) 0)
+
 abbrev pub IsLayout : ℕ → Type 0
-IsLayout bits = (bit_and bits 0x10BCF ≡ bits) × (bit_and bits 0x800 ≢ 0)
+IsLayout bits = is_layout bits ≡ true
 
 -- whether the layout has the field of the bit 2 ^ place
 abbrev pub has : ℕ → ℕ → Bool
