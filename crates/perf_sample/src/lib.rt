@@ -1,0 +1,19 @@
+//! Perf samples with branch stacks, as values and as bytes: the record PERF_RECORD_SAMPLE of Linux `perf_event.h`.
+//!
+//! A layout says which fields a sample has. `encode` writes a sample as the one spelling that its layout gives it.
+#![tactic(auto)]
+
+mod branches;
+mod layout;
+mod perf_types;
+mod sample;
+mod writing;
+
+pub use branches::Branches;
+pub use layout::Layout;
+pub use perf_types::perf_type;
+pub use sample::{Branch, Sample};
+pub use writing::{Buffer, encode};
+
+#[cfg(test)]
+mod tests;

@@ -1,0 +1,44 @@
+//! What a sample holds.
+
+use crate::branches::Branches;
+
+/// One entry of a branch stack (`perf_event.h`, struct perf_branch_entry).
+#[derive(Clone, Copy, Debug, Default, PartialEq, Eq)]
+pub struct Branch {
+    /// The address that control left.
+    pub from: u64,
+    /// The address that it went to.
+    pub to: u64,
+    /// Bits 0 to 32 of the entry's third word: mispred 0, predicted 1, in_tx 2, abort 3, cycles 4 to 19,
+    /// type 20 to 23, spec 24 and 25, new_type 26 to 29, priv 30 to 32. The bits from 33 up are reserved, and 0.
+    pub flags: u64,
+}
+
+/// A sample. A field that its layout leaves out is 0.
+#[derive(Debug, Drop)]
+pub struct Sample {
+    /// The field misc of the header, whose low three bits tell the mode of the processor.
+    pub misc: u16,
+    /// The identifier of the event, at a fixed place in each sample.
+    pub identifier: u64,
+    /// The program counter.
+    pub ip: u64,
+    /// The process.
+    pub pid: u32,
+    /// The thread.
+    pub tid: u32,
+    /// When the sample was taken.
+    pub time: u64,
+    /// An address that the event speaks of.
+    pub addr: u64,
+    /// The identifier of the event's group.
+    pub id: u64,
+    /// The identifier of the event itself.
+    pub stream_id: u64,
+    /// The processor.
+    pub cpu: u32,
+    /// How many events lie between two samples.
+    pub period: u64,
+    /// The branch stack, youngest first.
+    pub branches: Branches,
+}
