@@ -1,10 +1,10 @@
 #!/usr/bin/env python3
-"""Prints the cases of crates/rv_decode/src/tests.rt: for each row of the table of instructions one word, and one
-word beside it that is no instruction. The words come from LLVM's assembler, so that nothing here shares a line
-with the decoder; what each means is written beside its text by hand. SCTRCLR is newer than the assembler and is
-given as the word of its standard. A refused word is the first one that differs from the row's word in one bit
-of opcode, funct3 or funct7 (or of the whole word, where the row is one word) and that LLVM's disassembler refuses
-that has M as its only extension."""
+"""Prints the cases of crates/rv_decode/src/tests.rt: for each row of the table of instructions one word with its
+operands, and one word beside it that is no instruction. LLVM's assembler makes the words, so nothing here shares
+a line with the decoder; the operands are those of the text, written beside it by hand. SCTRCLR is newer than the
+assembler and is given as the word of its standard. The refused word differs from the row's word in one bit of
+opcode, funct3 or funct7 (or of the whole word, where the row is one word), and LLVM's disassembler refuses it with
+M as the only extension."""
 import re
 import subprocess
 
@@ -16,47 +16,48 @@ def imm(n):
     n %= M64
     if n < 1 << 16:
         return "0x%X" % n
+    if n < 1 << 32:
+        return "0x%04X_%04X" % (n >> 16, n & 0xFFFF)
     digits = "%016X" % n
     return "0x" + "_".join(digits[k:k + 4] for k in range(0, 16, 4))
 
 
-def u(name, rd, value):
-    return "Instr::%s { rd: %d, imm: %s }" % (name, rd, imm(value))
+def signed(width, rd, rs1, off):
+    return "Width::%s, true, %d, %d, %s" % (width, rd, rs1, imm(off))
 
 
-def branch(cond, rs1, rs2, off):
-    return "Instr::Branch { cond: Cond::%s, rs1: %d, rs2: %d, off: %s }" % (cond, rs1, rs2, imm(off))
-
-
-def load(width, signed, rd, rs1, off):
-    return "Instr::Load { width: Width::%s, signed: %s, rd: %d, rs1: %d, off: %s }" % (
-        width, str(signed).lower(), rd, rs1, imm(off))
+def unsigned(width, rd, rs1, off):
+    return "Width::%s, false, %d, %d, %s" % (width, rd, rs1, imm(off))
 
 
 def store(width, rs1, rs2, off):
-    return "Instr::Store { width: Width::%s, rs1: %d, rs2: %d, off: %s }" % (width, rs1, rs2, imm(off))
+    return "Width::%s, %d, %d, %s" % (width, rs1, rs2, imm(off))
+
+
+def branch(cond, rs1, rs2, off):
+    return "Cond::%s, %d, %d, %s" % (cond, rs1, rs2, imm(off))
 
 
 def alu_imm(op, rd, rs1, value):
-    return "Instr::AluImm { op: AluOp::%s, rd: %d, rs1: %d, imm: %s }" % (op, rd, rs1, imm(value))
+    return "AluOp::%s, %d, %d, %s" % (op, rd, rs1, imm(value))
 
 
 def alu(op, rd, rs1, rs2):
-    return "Instr::Alu { op: AluOp::%s, rd: %d, rs1: %d, rs2: %d }" % (op, rd, rs1, rs2)
+    return "AluOp::%s, %d, %d, %d" % (op, rd, rs1, rs2)
 
 
 def csr(op, rd, kind, arg, number):
-    return "Instr::Csr { op: CsrOp::%s, rd: %d, arg: CsrArg::%s(%d), csr: 0x%03X }" % (op, rd, kind, arg, number)
+    return "CsrOp::%s, %d, CsrArg::%s(%d), 0x%03X" % (op, rd, kind, arg, number)
 
 
 GROUPS = {
     "jumps": [
-        ("lui x31, 0x80000", u("Lui", 31, -0x80000000)),
-        ("auipc x10, 0x7ffff", u("Auipc", 10, 0x7FFFF000)),
-        ("jal x1, -2", "Instr::Jal { rd: 1, off: %s }" % imm(-2)),
-        ("jal x0, 1048574", "Instr::Jal { rd: 0, off: 0xFFFFE }"),
-        ("jal x30, 2048", "Instr::Jal { rd: 30, off: 0x800 }"),
-        ("jalr x1, -2048(x5)", "Instr::Jalr { rd: 1, rs1: 5, off: %s }" % imm(-2048)),
+        ("lui x31, 0x80000", "31, " + imm(-0x80000000)),
+        ("auipc x10, 0x7ffff", "10, " + imm(0x7FFFF000)),
+        ("jal x1, -2", "1, " + imm(-2)),
+        ("jal x0, 1048574", "0, 0xF_FFFE"),
+        ("jal x30, 2048", "30, 0x800"),
+        ("jalr x1, -2048(x5)", "1, 5, " + imm(-2048)),
     ],
     "branches": [
         ("beq x3, x28, -4096", branch("Eq", 3, 28, -4096)),
@@ -67,13 +68,13 @@ GROUPS = {
         ("bgeu x16, x16, 30", branch("Geu", 16, 16, 30)),
     ],
     "loads": [
-        ("lb x31, 2047(x1)", load("B", True, 31, 1, 2047)),
-        ("lh x2, -2048(x16)", load("H", True, 2, 16, -2048)),
-        ("lw x4, -1(x8)", load("W", True, 4, 8, -1)),
-        ("ld x8, 1024(x4)", load("D", True, 8, 4, 1024)),
-        ("lbu x16, 1(x2)", load("B", False, 16, 2, 1)),
-        ("lhu x1, 85(x31)", load("H", False, 1, 31, 85)),
-        ("lwu x21, -86(x10)", load("W", False, 21, 10, -86)),
+        ("lb x31, 2047(x1)", signed("B", 31, 1, 2047)),
+        ("lh x2, -2048(x16)", signed("H", 2, 16, -2048)),
+        ("lw x4, -1(x8)", signed("W", 4, 8, -1)),
+        ("ld x8, 1024(x4)", signed("D", 8, 4, 1024)),
+        ("lbu x16, 1(x2)", unsigned("B", 16, 2, 1)),
+        ("lhu x1, 85(x31)", unsigned("H", 1, 31, 85)),
+        ("lwu x21, -86(x10)", unsigned("W", 21, 10, -86)),
         ("sb x1, -2048(x31)", store("B", 31, 1, -2048)),
         ("sh x16, 2047(x2)", store("H", 2, 16, 2047)),
         ("sw x8, 31(x4)", store("W", 4, 8, 31)),

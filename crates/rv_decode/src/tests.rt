@@ -2,670 +2,199 @@
 use crate::{AluOp, Cond, CsrArg, CsrOp, Instr, Width, decode, table_laws};
 
 #[test]
-fn upper_immediates_and_jumps_are_read_by_the_formats_u_j_and_i(rt: HostRuntime) {
-    for (word, want) in [
-        (
-            0x80000FB7,
-            Instr::Lui {
-                rd: 31,
-                imm: 0xFFFF_FFFF_8000_0000,
-            },
-        ), // lui x31, 0x80000
-        (
-            0x7FFFF517,
-            Instr::Auipc {
-                rd: 10,
-                imm: 0x0000_0000_7FFF_F000,
-            },
-        ), // auipc x10, 0x7ffff
-        (
-            0xFFFFF0EF,
-            Instr::Jal {
-                rd: 1,
-                off: 0xFFFF_FFFF_FFFF_FFFE,
-            },
-        ), // jal x1, -2
-        (
-            0x7FFFF06F,
-            Instr::Jal {
-                rd: 0,
-                off: 0xFFFFE,
-            },
-        ), // jal x0, 1048574
-        (0x00100F6F, Instr::Jal { rd: 30, off: 0x800 }), // jal x30, 2048
-        (
-            0x800280E7,
-            Instr::Jalr {
-                rd: 1,
-                rs1: 5,
-                off: 0xFFFF_FFFF_FFFF_F800,
-            },
-        ), // jalr x1, -2048(x5)
+fn upper_immediates_are_read_by_the_format_u(rt: HostRuntime) {
+    assert_eq!(rt;
+        decode(0x80000FB7),
+        Some(Instr::Lui {
+            rd: 31,
+            imm: 0xFFFF_FFFF_8000_0000
+        })
+    ); // lui x31, 0x80000
+    assert_eq!(rt;
+        decode(0x7FFFF517),
+        Some(Instr::Auipc {
+            rd: 10,
+            imm: 0x7FFF_F000
+        })
+    ); // auipc x10, 0x7ffff
+}
+
+#[test]
+fn jumps_are_read_by_the_formats_j_and_i(rt: HostRuntime) {
+    for (word, rd, off) in [
+        (0xFFFFF0EF, 1, 0xFFFF_FFFF_FFFF_FFFE), // jal x1, -2
+        (0x7FFFF06F, 0, 0xF_FFFE), // jal x0, 1048574
+        (0x00100F6F, 30, 0x800), // jal x30, 2048
     ] {
-        assert_eq!(rt; decode(word), Some(want), "{word:08x}");
+        assert_eq!(rt; decode(word), Some(Instr::Jal { rd, off }), "{word:08x}");
     }
+    assert_eq!(rt;
+        decode(0x800280E7),
+        Some(Instr::Jalr {
+            rd: 1,
+            rs1: 5,
+            off: 0xFFFF_FFFF_FFFF_F800
+        })
+    ); // jalr x1, -2048(x5)
 }
 
 #[test]
 fn branches_are_read_by_the_format_b(rt: HostRuntime) {
-    for (word, want) in [
-        (
-            0x81C18063,
-            Instr::Branch {
-                cond: Cond::Eq,
-                rs1: 3,
-                rs2: 28,
-                off: 0xFFFF_FFFF_FFFF_F000,
-            },
-        ), // beq x3, x28, -4096
-        (
-            0x7FF01FE3,
-            Instr::Branch {
-                cond: Cond::Ne,
-                rs1: 0,
-                rs2: 31,
-                off: 0xFFE,
-            },
-        ), // bne x0, x31, 4094
-        (
-            0x0068C0E3,
-            Instr::Branch {
-                cond: Cond::Lt,
-                rs1: 17,
-                rs2: 6,
-                off: 0x800,
-            },
-        ), // blt x17, x6, 2048
-        (
-            0xFE945FE3,
-            Instr::Branch {
-                cond: Cond::Ge,
-                rs1: 8,
-                rs2: 9,
-                off: 0xFFFF_FFFF_FFFF_FFFE,
-            },
-        ), // bge x8, x9, -2
-        (
-            0x021FE063,
-            Instr::Branch {
-                cond: Cond::Ltu,
-                rs1: 31,
-                rs2: 1,
-                off: 0x20,
-            },
-        ), // bltu x31, x1, 32
-        (
-            0x01087F63,
-            Instr::Branch {
-                cond: Cond::Geu,
-                rs1: 16,
-                rs2: 16,
-                off: 0x1E,
-            },
-        ), // bgeu x16, x16, 30
+    for (word, cond, rs1, rs2, off) in [
+        (0x81C18063, Cond::Eq, 3, 28, 0xFFFF_FFFF_FFFF_F000), // beq x3, x28, -4096
+        (0x7FF01FE3, Cond::Ne, 0, 31, 0xFFE), // bne x0, x31, 4094
+        (0x0068C0E3, Cond::Lt, 17, 6, 0x800), // blt x17, x6, 2048
+        (0xFE945FE3, Cond::Ge, 8, 9, 0xFFFF_FFFF_FFFF_FFFE), // bge x8, x9, -2
+        (0x021FE063, Cond::Ltu, 31, 1, 0x20), // bltu x31, x1, 32
+        (0x01087F63, Cond::Geu, 16, 16, 0x1E), // bgeu x16, x16, 30
     ] {
-        assert_eq!(rt; decode(word), Some(want), "{word:08x}");
+        assert_eq!(rt;
+            decode(word),
+            Some(Instr::Branch {
+                cond,
+                rs1,
+                rs2,
+                off
+            }),
+            "{word:08x}"
+        );
     }
 }
 
 #[test]
-fn loads_and_stores_are_read_by_the_formats_i_and_s(rt: HostRuntime) {
-    for (word, want) in [
-        (
-            0x7FF08F83,
-            Instr::Load {
-                width: Width::B,
-                signed: true,
-                rd: 31,
-                rs1: 1,
-                off: 0x7FF,
-            },
-        ), // lb x31, 2047(x1)
-        (
-            0x80081103,
-            Instr::Load {
-                width: Width::H,
-                signed: true,
-                rd: 2,
-                rs1: 16,
-                off: 0xFFFF_FFFF_FFFF_F800,
-            },
-        ), // lh x2, -2048(x16)
-        (
-            0xFFF42203,
-            Instr::Load {
-                width: Width::W,
-                signed: true,
-                rd: 4,
-                rs1: 8,
-                off: 0xFFFF_FFFF_FFFF_FFFF,
-            },
-        ), // lw x4, -1(x8)
-        (
-            0x40023403,
-            Instr::Load {
-                width: Width::D,
-                signed: true,
-                rd: 8,
-                rs1: 4,
-                off: 0x400,
-            },
-        ), // ld x8, 1024(x4)
-        (
-            0x00114803,
-            Instr::Load {
-                width: Width::B,
-                signed: false,
-                rd: 16,
-                rs1: 2,
-                off: 0x1,
-            },
-        ), // lbu x16, 1(x2)
-        (
-            0x055FD083,
-            Instr::Load {
-                width: Width::H,
-                signed: false,
-                rd: 1,
-                rs1: 31,
-                off: 0x55,
-            },
-        ), // lhu x1, 85(x31)
-        (
-            0xFAA56A83,
-            Instr::Load {
-                width: Width::W,
-                signed: false,
-                rd: 21,
-                rs1: 10,
-                off: 0xFFFF_FFFF_FFFF_FFAA,
-            },
-        ), // lwu x21, -86(x10)
-        (
-            0x801F8023,
-            Instr::Store {
-                width: Width::B,
-                rs1: 31,
-                rs2: 1,
-                off: 0xFFFF_FFFF_FFFF_F800,
-            },
-        ), // sb x1, -2048(x31)
-        (
-            0x7F011FA3,
-            Instr::Store {
-                width: Width::H,
-                rs1: 2,
-                rs2: 16,
-                off: 0x7FF,
-            },
-        ), // sh x16, 2047(x2)
-        (
-            0x00822FA3,
-            Instr::Store {
-                width: Width::W,
-                rs1: 4,
-                rs2: 8,
-                off: 0x1F,
-            },
-        ), // sw x8, 31(x4)
-        (
-            0x03553023,
-            Instr::Store {
-                width: Width::D,
-                rs1: 10,
-                rs2: 21,
-                off: 0x20,
-            },
-        ), // sd x21, 32(x10)
+fn loads_are_read_by_the_format_i(rt: HostRuntime) {
+    for (word, width, signed, rd, rs1, off) in [
+        (0x7FF08F83, Width::B, true, 31, 1, 0x7FF), // lb x31, 2047(x1)
+        (0x80081103, Width::H, true, 2, 16, 0xFFFF_FFFF_FFFF_F800), // lh x2, -2048(x16)
+        (0xFFF42203, Width::W, true, 4, 8, 0xFFFF_FFFF_FFFF_FFFF), // lw x4, -1(x8)
+        (0x40023403, Width::D, true, 8, 4, 0x400), // ld x8, 1024(x4)
+        (0x00114803, Width::B, false, 16, 2, 0x1), // lbu x16, 1(x2)
+        (0x055FD083, Width::H, false, 1, 31, 0x55), // lhu x1, 85(x31)
+        (0xFAA56A83, Width::W, false, 21, 10, 0xFFFF_FFFF_FFFF_FFAA), // lwu x21, -86(x10)
     ] {
-        assert_eq!(rt; decode(word), Some(want), "{word:08x}");
+        assert_eq!(rt;
+            decode(word),
+            Some(Instr::Load {
+                width,
+                signed,
+                rd,
+                rs1,
+                off
+            }),
+            "{word:08x}"
+        );
+    }
+}
+
+#[test]
+fn stores_are_read_by_the_format_s(rt: HostRuntime) {
+    for (word, width, rs1, rs2, off) in [
+        (0x801F8023, Width::B, 31, 1, 0xFFFF_FFFF_FFFF_F800), // sb x1, -2048(x31)
+        (0x7F011FA3, Width::H, 2, 16, 0x7FF), // sh x16, 2047(x2)
+        (0x00822FA3, Width::W, 4, 8, 0x1F), // sw x8, 31(x4)
+        (0x03553023, Width::D, 10, 21, 0x20), // sd x21, 32(x10)
+    ] {
+        assert_eq!(rt;
+            decode(word),
+            Some(Instr::Store {
+                width,
+                rs1,
+                rs2,
+                off
+            }),
+            "{word:08x}"
+        );
     }
 }
 
 #[test]
 fn operations_with_an_immediate_are_read_by_the_format_i(rt: HostRuntime) {
-    for (word, want) in [
-        (
-            0x80008F93,
-            Instr::AluImm {
-                op: AluOp::Add,
-                rd: 31,
-                rs1: 1,
-                imm: 0xFFFF_FFFF_FFFF_F800,
-            },
-        ), // addi x31, x1, -2048
-        (
-            0x7FF82113,
-            Instr::AluImm {
-                op: AluOp::Slt,
-                rd: 2,
-                rs1: 16,
-                imm: 0x7FF,
-            },
-        ), // slti x2, x16, 2047
-        (
-            0xFFF43213,
-            Instr::AluImm {
-                op: AluOp::Sltu,
-                rd: 4,
-                rs1: 8,
-                imm: 0xFFFF_FFFF_FFFF_FFFF,
-            },
-        ), // sltiu x4, x8, -1
-        (
-            0x05524413,
-            Instr::AluImm {
-                op: AluOp::Xor,
-                rd: 8,
-                rs1: 4,
-                imm: 0x55,
-            },
-        ), // xori x8, x4, 85
-        (
-            0xFAA16813,
-            Instr::AluImm {
-                op: AluOp::Or,
-                rd: 16,
-                rs1: 2,
-                imm: 0xFFFF_FFFF_FFFF_FFAA,
-            },
-        ), // ori x16, x2, -86
-        (
-            0x400FF093,
-            Instr::AluImm {
-                op: AluOp::And,
-                rd: 1,
-                rs1: 31,
-                imm: 0x400,
-            },
-        ), // andi x1, x31, 1024
-        (
-            0x03F51A93,
-            Instr::AluImm {
-                op: AluOp::Sll,
-                rd: 21,
-                rs1: 10,
-                imm: 0x3F,
-            },
-        ), // slli x21, x10, 63
-        (
-            0x020AD513,
-            Instr::AluImm {
-                op: AluOp::Srl,
-                rd: 10,
-                rs1: 21,
-                imm: 0x20,
-            },
-        ), // srli x10, x21, 32
-        (
-            0x41FFDF93,
-            Instr::AluImm {
-                op: AluOp::Sra,
-                rd: 31,
-                rs1: 31,
-                imm: 0x1F,
-            },
-        ), // srai x31, x31, 31
-        (
-            0xFFFC039B,
-            Instr::AluImm {
-                op: AluOp::Addw,
-                rd: 7,
-                rs1: 24,
-                imm: 0xFFFF_FFFF_FFFF_FFFF,
-            },
-        ), // addiw x7, x24, -1
-        (
-            0x01F39C1B,
-            Instr::AluImm {
-                op: AluOp::Sllw,
-                rd: 24,
-                rs1: 7,
-                imm: 0x1F,
-            },
-        ), // slliw x24, x7, 31
-        (
-            0x0019D61B,
-            Instr::AluImm {
-                op: AluOp::Srlw,
-                rd: 12,
-                rs1: 19,
-                imm: 0x1,
-            },
-        ), // srliw x12, x19, 1
-        (
-            0x4106599B,
-            Instr::AluImm {
-                op: AluOp::Sraw,
-                rd: 19,
-                rs1: 12,
-                imm: 0x10,
-            },
-        ), // sraiw x19, x12, 16
+    for (word, op, rd, rs1, imm) in [
+        (0x80008F93, AluOp::Add, 31, 1, 0xFFFF_FFFF_FFFF_F800), // addi x31, x1, -2048
+        (0x7FF82113, AluOp::Slt, 2, 16, 0x7FF), // slti x2, x16, 2047
+        (0xFFF43213, AluOp::Sltu, 4, 8, 0xFFFF_FFFF_FFFF_FFFF), // sltiu x4, x8, -1
+        (0x05524413, AluOp::Xor, 8, 4, 0x55), // xori x8, x4, 85
+        (0xFAA16813, AluOp::Or, 16, 2, 0xFFFF_FFFF_FFFF_FFAA), // ori x16, x2, -86
+        (0x400FF093, AluOp::And, 1, 31, 0x400), // andi x1, x31, 1024
+        (0x03F51A93, AluOp::Sll, 21, 10, 0x3F), // slli x21, x10, 63
+        (0x020AD513, AluOp::Srl, 10, 21, 0x20), // srli x10, x21, 32
+        (0x41FFDF93, AluOp::Sra, 31, 31, 0x1F), // srai x31, x31, 31
+        (0xFFFC039B, AluOp::Addw, 7, 24, 0xFFFF_FFFF_FFFF_FFFF), // addiw x7, x24, -1
+        (0x01F39C1B, AluOp::Sllw, 24, 7, 0x1F), // slliw x24, x7, 31
+        (0x0019D61B, AluOp::Srlw, 12, 19, 0x1), // srliw x12, x19, 1
+        (0x4106599B, AluOp::Sraw, 19, 12, 0x10), // sraiw x19, x12, 16
     ] {
-        assert_eq!(rt; decode(word), Some(want), "{word:08x}");
+        assert_eq!(rt;
+            decode(word),
+            Some(Instr::AluImm { op, rd, rs1, imm }),
+            "{word:08x}"
+        );
     }
 }
 
 #[test]
 fn operations_of_registers_are_read_by_the_format_r(rt: HostRuntime) {
-    for (word, want) in [
-        (
-            0x00208FB3,
-            Instr::Alu {
-                op: AluOp::Add,
-                rd: 31,
-                rs1: 1,
-                rs2: 2,
-            },
-        ), // add x31, x1, x2
-        (
-            0x402F80B3,
-            Instr::Alu {
-                op: AluOp::Sub,
-                rd: 1,
-                rs1: 31,
-                rs2: 2,
-            },
-        ), // sub x1, x31, x2
-        (
-            0x01F110B3,
-            Instr::Alu {
-                op: AluOp::Sll,
-                rd: 1,
-                rs1: 2,
-                rs2: 31,
-            },
-        ), // sll x1, x2, x31
-        (
-            0x00442833,
-            Instr::Alu {
-                op: AluOp::Slt,
-                rd: 16,
-                rs1: 8,
-                rs2: 4,
-            },
-        ), // slt x16, x8, x4
-        (
-            0x00483433,
-            Instr::Alu {
-                op: AluOp::Sltu,
-                rd: 8,
-                rs1: 16,
-                rs2: 4,
-            },
-        ), // sltu x8, x16, x4
-        (
-            0x01024433,
-            Instr::Alu {
-                op: AluOp::Xor,
-                rd: 8,
-                rs1: 4,
-                rs2: 16,
-            },
-        ), // xor x8, x4, x16
-        (
-            0x00555AB3,
-            Instr::Alu {
-                op: AluOp::Srl,
-                rd: 21,
-                rs1: 10,
-                rs2: 5,
-            },
-        ), // srl x21, x10, x5
-        (
-            0x405AD533,
-            Instr::Alu {
-                op: AluOp::Sra,
-                rd: 10,
-                rs1: 21,
-                rs2: 5,
-            },
-        ), // sra x10, x21, x5
-        (
-            0x015562B3,
-            Instr::Alu {
-                op: AluOp::Or,
-                rd: 5,
-                rs1: 10,
-                rs2: 21,
-            },
-        ), // or x5, x10, x21
-        (
-            0x01EFF033,
-            Instr::Alu {
-                op: AluOp::And,
-                rd: 0,
-                rs1: 31,
-                rs2: 30,
-            },
-        ), // and x0, x31, x30
-        (
-            0x02F381B3,
-            Instr::Alu {
-                op: AluOp::Mul,
-                rd: 3,
-                rs1: 7,
-                rs2: 15,
-            },
-        ), // mul x3, x7, x15
-        (
-            0x02F193B3,
-            Instr::Alu {
-                op: AluOp::Mulh,
-                rd: 7,
-                rs1: 3,
-                rs2: 15,
-            },
-        ), // mulh x7, x3, x15
-        (
-            0x0237A3B3,
-            Instr::Alu {
-                op: AluOp::Mulhsu,
-                rd: 7,
-                rs1: 15,
-                rs2: 3,
-            },
-        ), // mulhsu x7, x15, x3
-        (
-            0x02663C33,
-            Instr::Alu {
-                op: AluOp::Mulhu,
-                rd: 24,
-                rs1: 12,
-                rs2: 6,
-            },
-        ), // mulhu x24, x12, x6
-        (
-            0x026C4633,
-            Instr::Alu {
-                op: AluOp::Div,
-                rd: 12,
-                rs1: 24,
-                rs2: 6,
-            },
-        ), // div x12, x24, x6
-        (
-            0x03835633,
-            Instr::Alu {
-                op: AluOp::Divu,
-                rd: 12,
-                rs1: 6,
-                rs2: 24,
-            },
-        ), // divu x12, x6, x24
-        (
-            0x03D4E8B3,
-            Instr::Alu {
-                op: AluOp::Rem,
-                rd: 17,
-                rs1: 9,
-                rs2: 29,
-            },
-        ), // rem x17, x9, x29
-        (
-            0x03D8F4B3,
-            Instr::Alu {
-                op: AluOp::Remu,
-                rd: 9,
-                rs1: 17,
-                rs2: 29,
-            },
-        ), // remu x9, x17, x29
-        (
-            0x011E84BB,
-            Instr::Alu {
-                op: AluOp::Addw,
-                rd: 9,
-                rs1: 29,
-                rs2: 17,
-            },
-        ), // addw x9, x29, x17
-        (
-            0x40D58B3B,
-            Instr::Alu {
-                op: AluOp::Subw,
-                rd: 22,
-                rs1: 11,
-                rs2: 13,
-            },
-        ), // subw x22, x11, x13
-        (
-            0x00DB15BB,
-            Instr::Alu {
-                op: AluOp::Sllw,
-                rd: 11,
-                rs1: 22,
-                rs2: 13,
-            },
-        ), // sllw x11, x22, x13
-        (
-            0x0166D5BB,
-            Instr::Alu {
-                op: AluOp::Srlw,
-                rd: 11,
-                rs1: 13,
-                rs2: 22,
-            },
-        ), // srlw x11, x13, x22
-        (
-            0x419E573B,
-            Instr::Alu {
-                op: AluOp::Sraw,
-                rd: 14,
-                rs1: 28,
-                rs2: 25,
-            },
-        ), // sraw x14, x28, x25
-        (
-            0x03970E3B,
-            Instr::Alu {
-                op: AluOp::Mulw,
-                rd: 28,
-                rs1: 14,
-                rs2: 25,
-            },
-        ), // mulw x28, x14, x25
-        (
-            0x02ECCE3B,
-            Instr::Alu {
-                op: AluOp::Divw,
-                rd: 28,
-                rs1: 25,
-                rs2: 14,
-            },
-        ), // divw x28, x25, x14
-        (
-            0x037A593B,
-            Instr::Alu {
-                op: AluOp::Divuw,
-                rd: 18,
-                rs1: 20,
-                rs2: 23,
-            },
-        ), // divuw x18, x20, x23
-        (
-            0x03796A3B,
-            Instr::Alu {
-                op: AluOp::Remw,
-                rd: 20,
-                rs1: 18,
-                rs2: 23,
-            },
-        ), // remw x20, x18, x23
-        (
-            0x032BFA3B,
-            Instr::Alu {
-                op: AluOp::Remuw,
-                rd: 20,
-                rs1: 23,
-                rs2: 18,
-            },
-        ), // remuw x20, x23, x18
+    for (word, op, rd, rs1, rs2) in [
+        (0x00208FB3, AluOp::Add, 31, 1, 2), // add x31, x1, x2
+        (0x402F80B3, AluOp::Sub, 1, 31, 2), // sub x1, x31, x2
+        (0x01F110B3, AluOp::Sll, 1, 2, 31), // sll x1, x2, x31
+        (0x00442833, AluOp::Slt, 16, 8, 4), // slt x16, x8, x4
+        (0x00483433, AluOp::Sltu, 8, 16, 4), // sltu x8, x16, x4
+        (0x01024433, AluOp::Xor, 8, 4, 16), // xor x8, x4, x16
+        (0x00555AB3, AluOp::Srl, 21, 10, 5), // srl x21, x10, x5
+        (0x405AD533, AluOp::Sra, 10, 21, 5), // sra x10, x21, x5
+        (0x015562B3, AluOp::Or, 5, 10, 21), // or x5, x10, x21
+        (0x01EFF033, AluOp::And, 0, 31, 30), // and x0, x31, x30
+        (0x02F381B3, AluOp::Mul, 3, 7, 15), // mul x3, x7, x15
+        (0x02F193B3, AluOp::Mulh, 7, 3, 15), // mulh x7, x3, x15
+        (0x0237A3B3, AluOp::Mulhsu, 7, 15, 3), // mulhsu x7, x15, x3
+        (0x02663C33, AluOp::Mulhu, 24, 12, 6), // mulhu x24, x12, x6
+        (0x026C4633, AluOp::Div, 12, 24, 6), // div x12, x24, x6
+        (0x03835633, AluOp::Divu, 12, 6, 24), // divu x12, x6, x24
+        (0x03D4E8B3, AluOp::Rem, 17, 9, 29), // rem x17, x9, x29
+        (0x03D8F4B3, AluOp::Remu, 9, 17, 29), // remu x9, x17, x29
+        (0x011E84BB, AluOp::Addw, 9, 29, 17), // addw x9, x29, x17
+        (0x40D58B3B, AluOp::Subw, 22, 11, 13), // subw x22, x11, x13
+        (0x00DB15BB, AluOp::Sllw, 11, 22, 13), // sllw x11, x22, x13
+        (0x0166D5BB, AluOp::Srlw, 11, 13, 22), // srlw x11, x13, x22
+        (0x419E573B, AluOp::Sraw, 14, 28, 25), // sraw x14, x28, x25
+        (0x03970E3B, AluOp::Mulw, 28, 14, 25), // mulw x28, x14, x25
+        (0x02ECCE3B, AluOp::Divw, 28, 25, 14), // divw x28, x25, x14
+        (0x037A593B, AluOp::Divuw, 18, 20, 23), // divuw x18, x20, x23
+        (0x03796A3B, AluOp::Remw, 20, 18, 23), // remw x20, x18, x23
+        (0x032BFA3B, AluOp::Remuw, 20, 23, 18), // remuw x20, x23, x18
     ] {
-        assert_eq!(rt; decode(word), Some(want), "{word:08x}");
+        assert_eq!(rt;
+            decode(word),
+            Some(Instr::Alu { op, rd, rs1, rs2 }),
+            "{word:08x}"
+        );
     }
 }
 
 #[test]
-fn fences_csr_instructions_and_the_single_words_are_read(rt: HostRuntime) {
+fn csr_instructions_take_a_register_or_five_bits(rt: HostRuntime) {
+    for (word, op, rd, arg, csr) in [
+        (0xFFFF90F3, CsrOp::Write, 1, CsrArg::Reg(31), 0xFFF), // csrrw x1, 0xfff, x31
+        (0x34E02FF3, CsrOp::Set, 31, CsrArg::Reg(0), 0x34E), // csrrs x31, 0x34e, x0
+        (0x80083073, CsrOp::Clear, 0, CsrArg::Reg(16), 0x800), // csrrc x0, 0x800, x16
+        (0x15FFD173, CsrOp::Write, 2, CsrArg::Imm(31), 0x15F), // csrrwi x2, 0x15f, 31
+        (0x00106873, CsrOp::Set, 16, CsrArg::Imm(0), 0x001), // csrrsi x16, 0x001, 0
+        (0x250AF473, CsrOp::Clear, 8, CsrArg::Imm(21), 0x250), // csrrci x8, 0x250, 21
+    ] {
+        assert_eq!(rt;
+            decode(word),
+            Some(Instr::Csr { op, rd, arg, csr }),
+            "{word:08x}"
+        );
+    }
+}
+
+#[test]
+fn fences_and_the_single_words_have_no_operand(rt: HostRuntime) {
     for (word, want) in [
         (0x0310000F, Instr::Fence), // fence rw, w
         (0x0000100F, Instr::FenceI), // fence.i
-        (
-            0xFFFF90F3,
-            Instr::Csr {
-                op: CsrOp::Write,
-                rd: 1,
-                arg: CsrArg::Reg(31),
-                csr: 0xFFF,
-            },
-        ), // csrrw x1, 0xfff, x31
-        (
-            0x34E02FF3,
-            Instr::Csr {
-                op: CsrOp::Set,
-                rd: 31,
-                arg: CsrArg::Reg(0),
-                csr: 0x34E,
-            },
-        ), // csrrs x31, 0x34e, x0
-        (
-            0x80083073,
-            Instr::Csr {
-                op: CsrOp::Clear,
-                rd: 0,
-                arg: CsrArg::Reg(16),
-                csr: 0x800,
-            },
-        ), // csrrc x0, 0x800, x16
-        (
-            0x15FFD173,
-            Instr::Csr {
-                op: CsrOp::Write,
-                rd: 2,
-                arg: CsrArg::Imm(31),
-                csr: 0x15F,
-            },
-        ), // csrrwi x2, 0x15f, 31
-        (
-            0x00106873,
-            Instr::Csr {
-                op: CsrOp::Set,
-                rd: 16,
-                arg: CsrArg::Imm(0),
-                csr: 0x001,
-            },
-        ), // csrrsi x16, 0x001, 0
-        (
-            0x250AF473,
-            Instr::Csr {
-                op: CsrOp::Clear,
-                rd: 8,
-                arg: CsrArg::Imm(21),
-                csr: 0x250,
-            },
-        ), // csrrci x8, 0x250, 21
         (0x00000073, Instr::Ecall), // ecall
         (0x00100073, Instr::Ebreak), // ebreak
         (0x30200073, Instr::Mret), // mret
