@@ -34,29 +34,35 @@ cut_position at (b ∷ rest) =
         [ true ↦ here | false ↦ more ]
 
 -- a text is what it was cut into
-first_is : (a b x y : List ℕ) → Some (a, b) ≡ Some (x, y) → a ≡ x
-first_is a b x y e = ap (λ o. (unwrap_or o ([], [])).0) e
+abbrev pub pair : List ℕ → List ℕ → Option (List ℕ × List ℕ)
+pair front rest = Some (front, rest)
 
-second_is : (a b x y : List ℕ) → Some (a, b) ≡ Some (x, y) → b ≡ y
-second_is a b x y e = ap (λ o. (unwrap_or o ([], [])).1) e
+pub some_is_none : {X : Type 0} (x : X) → None ≡ Some x → ⊥
+some_is_none x e = cc
 
-pub cut_is : (at : ℕ) (text front rest : List ℕ) → cut at text ≡ Some (front, rest) → text ≡ front ++ (at ∷ rest)
+none_is : (x y : List ℕ) → None ≡ pair x y → ⊥
+none_is x y e = cc
 
-before_is : (at b : ℕ) (text front rest : List ℕ) (o : Option (List ℕ × List ℕ))
-    → ((f r : List ℕ) → o ≡ Some (f, r) → text ≡ f ++ (at ∷ r)) → before b o ≡ Some (front, rest) → b ∷ text ≡ front ++ (at ∷ rest)
-before_is at b text front rest None h e = cc
-before_is at b text front rest (Some p) h e =
-    ap (λ t. b ∷ t) (h p.0 p.1 refl) ∙ ap (λ t. t ++ (at ∷ p.1)) (first_is _ _ _ _ e) ∙ ap (λ t. front ++ (at ∷ t)) (second_is _ _ _ _ e)
+first_is : (a b x y : List ℕ) → pair a b ≡ pair x y → a ≡ x
+first_is a b x y e = ap (λ (o : Option (List ℕ × List ℕ)). (unwrap_or o ([], [])).0) e
 
-cut_is at [] front rest e = cc
-cut_is at (b ∷ text) front rest e =
-    elim (nat_eq b at) as (λ v. nat_eq b at ≡ v → cond v (Some ([], text)) (before b (cut at text)) ≡ Some (front, rest) → b ∷ text ≡ front ++ (at ∷ rest))
-        [ true ↦ λ same is. ap (λ t. t ∷ text) (eqb-true b at same) ∙ ap (λ t. t ++ (at ∷ text)) (first_is _ _ _ _ is) ∙ ap (λ t. front ++ (at ∷ t)) (second_is _ _ _ _ is)
-        | false ↦ λ other is. before_is at b text front rest (cut at text) (λ f r. cut_is at text f r) is ] refl e
+second_is : (a b x y : List ℕ) → pair a b ≡ pair x y → b ≡ y
+second_is a b x y e = ap (λ (o : Option (List ℕ × List ℕ)). (unwrap_or o ([], [])).1) e
 
--- and a text is cut at the first such byte
-pub cut_first : (at : ℕ) (front rest : List ℕ) → All (λ b. nat_eq b at ≡ false) front → cut at (front ++ (at ∷ rest)) ≡ Some (front, rest)
-cut_first at [] rest h = ap (λ v. cond v (Some ([], rest)) (before at (cut at rest))) (eq-eqb at at refl)
-cut_first at (b ∷ front) rest h =
-    ap (λ v. cond v (Some ([], front ++ (at ∷ rest))) (before b (cut at (front ++ (at ∷ rest))))) (h 0 b (omega arith))
-        ∙ ap (before b) (cut_first at front rest (λ k d within. h (suc k) d (omega (arith, within))))
+-- a text is cut in one way only
+pub same_front : (at : ℕ) (text other a b x y : List ℕ) → text ≡ other → cut at text ≡ pair a b → cut at other ≡ pair x y → a ≡ x
+same_front at text other a b x y same e f = first_is a b x y (sym e ∙ ap (cut at) same ∙ f)
+
+pub same_rest : (at : ℕ) (text other a b x y : List ℕ) → text ≡ other → cut at text ≡ pair a b → cut at other ≡ pair x y → b ≡ y
+same_rest at text other a b x y same e f = second_is a b x y (sym e ∙ ap (cut at) same ∙ f)
+
+pub uncut : {P : Type 0} (at : ℕ) (text other x y : List ℕ) → text ≡ other → cut at text ≡ None → cut at other ≡ pair x y → P
+uncut at text other x y same e f = absurd (none_is x y (sym e ∙ ap (cut at) same ∙ f))
+
+-- two names of one text are cut alike
+pub cut_alike : (at : ℕ) (text other x y : List ℕ) → text ≡ other → cut at other ≡ pair x y → cut at text ≡ pair x y
+cut_alike at text other x y same e = ap (cut at) same ∙ e
+
+-- an answer isn't none and some at once
+pub not_both : {X P : Type 0} (o : Option X) (x : X) → o ≡ None → o ≡ Some x → P
+not_both o x none some = absurd (some_is_none x (sym none ∙ some))

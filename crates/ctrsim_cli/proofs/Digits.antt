@@ -1,5 +1,5 @@
 -- Digits one after the other.
-use Rattle.std.proofs.Common.{◌≡◌, ℕ, suc, ◌+◌, ◌-◌, ◌*◌, ◌^◌, ◌<◌, ◌≤◌, List, [], ◌∷◌, ◌++◌, Bool, false, nat_eq, slice_index_or, take, length, All, refl, sym, ap, ◌∙◌, rw, arith, add-one}
+use Rattle.std.proofs.Common.{◌≡◌, ℕ, suc, ◌+◌, ◌-◌, ◌*◌, ◌^◌, ◌<◌, ◌≤◌, List, [], ◌∷◌, ◌++◌, Bool, false, nat_eq, slice_index_or, take, length, All, refl, sym, ap, ◌∙◌, arith, add-one}
 use Rattle.std.proofs.lemmas.List.{take_more}
 use Rattle.std.proofs.lemmas.List.Sums.{fold-append}
 use Rattle.std.proofs.Math.Nat.{pow-succ'}
@@ -10,7 +10,3 @@ value_more word i within = ap value_of (take_more word i 0 within) ∙ fold-appe
 
 pub ten_more : (i : ℕ) → 10 ^ (i + 1) ≡ 10 * 10 ^ i
 ten_more i = rw add-one (pow-succ' 10 i)
-
--- a digit is neither a space nor a line feed
-pub digits_only : (at : ℕ) (word : List ℕ) → at < 48 → All IsDigit word → All (λ b. nat_eq b at ≡ false) word
-digits_only at word low digits k d within = ?

@@ -15,3 +15,7 @@ cut at (b ∷ rest) = cond (nat_eq b at) (Some ([], rest)) (before b (cut at res
 -- the first line of a text without its line feed, and the text after it
 abbrev pub line : List ℕ → Option (List ℕ × List ℕ)
 line text = cut 10 text
+
+-- the first word of a line where another follows, and what follows the one space between them
+abbrev pub word : List ℕ → Option (List ℕ × List ℕ)
+word text = cut 32 text

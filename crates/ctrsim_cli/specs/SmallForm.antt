@@ -1,6 +1,6 @@
 -- The small form of a schedule: one task on one hart, some steps, one sample.
-use Rattle.std.specs.Prelude.{◌≡◌, ℕ, ◌%◌, ◌≤◌, List, [], ◌∷◌, ◌++◌, length, take, drop, Some, codes}
-use Rattle.ctrsim_cli.specs.Lines.{line}
+use Rattle.std.specs.Prelude.{◌≡◌, ℕ, ◌%◌, ◌≤◌, List, [], length, take, drop, Some, codes}
+use Rattle.ctrsim_cli.specs.Lines.{line, word}
 use Rattle.ctrsim_cli.specs.Numbers.{IsNumber}
 
 -- what a schedule of the small form says
@@ -9,22 +9,37 @@ pub record Schedule : Type 0 where
   pub mem : ℕ
   pub steps : ℕ
 
--- `task IMAGE MEM 0 4 0 0`, with the length of the image and of the memory in bytes
-pub record IsTaskLine (text : List ℕ) (image mem : ℕ) : Type 0 where
-  pub image_word : List ℕ
-  pub mem_word : List ℕ
-  pub words : text ≡ codes "task " ++ (image_word ++ (codes " " ++ (mem_word ++ codes " 0 4 0 0")))
-  pub image_is : IsNumber image_word image
-  pub mem_is : IsNumber mem_word mem
+-- `task IMAGE MEM 0 4 0 0`, cut into its words
+pub record HasTaskWords (text image mem : List ℕ) : Type 0 where
+  pub after_task : List ℕ
+  pub task : word text ≡ Some (codes "task", after_task)
+  pub after_image : List ℕ
+  pub image_word : word after_task ≡ Some (image, after_image)
+  pub mem_word : word after_image ≡ Some (mem, codes "0 4 0 0")
+
+-- the lengths of an image and of a memory that it fits in, in bytes
+pub record AreSizes (image mem : ℕ) : Type 0 where
   pub image_fits : image ≤ mem
   pub mem_least : 4 ≤ mem
   pub mem_most : mem ≤ 4096
   pub mem_words : mem % 4 ≡ 0
 
--- `run 0 0 STEPS`
+pub record IsTaskLine (text : List ℕ) (image mem : ℕ) : Type 0 where
+  pub image_word : List ℕ
+  pub mem_word : List ℕ
+  pub words : HasTaskWords text image_word mem_word
+  pub image_is : IsNumber image_word image
+  pub mem_is : IsNumber mem_word mem
+  pub sizes : AreSizes image mem
+
+-- `run 0 0 STEPS`, cut into its words
 pub record IsRunLine (text : List ℕ) (steps : ℕ) : Type 0 where
+  pub after_run : List ℕ
+  pub run : word text ≡ Some (codes "run", after_run)
+  pub after_hart : List ℕ
+  pub hart : word after_run ≡ Some (codes "0", after_hart)
   pub steps_word : List ℕ
-  pub words : text ≡ codes "run 0 0 " ++ steps_word
+  pub task : word after_hart ≡ Some (codes "0", steps_word)
   pub steps_is : IsNumber steps_word steps
   pub steps_most : steps ≤ 1000000000
 

@@ -22,13 +22,13 @@ pub fn cut(text: &[u8], at: u8) -> Option<(&[u8], &[u8])>
     Some((front, rest))
 }
 
-/// The text after its first line, where that line is `want`.
-pub fn after_line<'a>(text: &'a [u8], want: &[u8]) -> Option<&'a [u8]>
-    ensures some { IfSome result (λ rest. cut 10 text.now ≡ Some (want.now, rest.now)) }
-    ensures only { (rest : List ℕ) → cut 10 text.now ≡ Some (want.now, rest) → IsSomeAnd result (λ r. r.now ≡ rest) }
+/// What stands after the first `at`, where `want` stands before it.
+pub fn after<'a>(text: &'a [u8], want: &[u8], at: u8) -> Option<&'a [u8]>
+    ensures some { IfSome result (λ rest. cut at text.now ≡ Some (want.now, rest.now)) }
+    ensures only { (rest : List ℕ) → cut at text.now ≡ Some (want.now, rest) → IsSomeAnd result (λ r. r.now ≡ rest) }
 {
-    let (line, rest) = cut(text, b'\n')?;
-    if line == want { Some(rest) } else { None }
+    let (front, rest) = cut(text, at)?;
+    if front == want { Some(rest) } else { None }
 }
 
 /// The value of 1 to 10 decimal digits.
