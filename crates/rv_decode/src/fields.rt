@@ -81,10 +81,8 @@ pub(crate) fn imm_i(word: u64) -> u64
 pub(crate) fn imm_s(word: u64) -> u64
     ensures { result ≡ imm_s_of word }
 {
-    sext(
-        Field::<25, 7>::get(word) * 32 + Field::<7, 5>::get(word),
-        12,
-    )
+    let high = Field::<25, 7>::get(word) * 32;
+    sext(high + Field::<7, 5>::get(word), 12)
 }
 
 pub(crate) fn imm_b(word: u64) -> u64
