@@ -1,0 +1,5 @@
+pub mod ControlFigure
+pub mod Depths
+pub mod Modes
+pub mod StatusFigure
+pub mod TrapEnables
