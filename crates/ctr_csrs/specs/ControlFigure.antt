@@ -1,5 +1,6 @@
 -- The control registers (RISC-V Control Transfer Records 1.0, registers mctrctl, sctrctl and vsctrctl).
-use Rattle.std.specs.Prelude.{◌≡◌, ℕ, ◌+◌, ◌/◌, ◌%◌, ◌^◌, Bool, true, false, nat_eq, List, [], ◌∷◌, refl}
+use Rattle.std.specs.Prelude.{◌≡◌, ℕ, ◌+◌, ◌^◌, Bool, true, false, nat_eq, List, [], ◌∷◌, refl}
+use Rattle.ctr_bits.specs.Field.{field_of}
 use Rattle.ctr_csrs.specs.declared.control_bit.ControlBit.{ControlBit}
 use Rattle.ctr_csrs.specs.declared.control_bit.ControlBit.TheVariants.{U, S, M, Rasemu, Ste, Mte, Bpfrz, Lcofifrz, Excinh, Intrinh, Tretinh, Ntbren, Tkbrinh, Indcallinh, Dircallinh, Indjmpinh, Dirjmpinh, Corswapinh, Retinh, Indljmpinh, Dirljmpinh}
 
@@ -29,7 +30,7 @@ place_of Dirljmpinh = 47
 
 -- whether a bit of a word is set
 abbrev pub is_on : ℕ → ControlBit → Bool
-is_on word bit = nat_eq (word / 2 ^ place_of bit % 2) 1
+is_on word bit = nat_eq (field_of (place_of bit) 1 word) 1
 
 -- the bits of mctrctl that are built: all of them
 abbrev pub m_mask : ℕ
@@ -38,10 +39,6 @@ m_mask = 0x0000FF3E00001B87
 -- the bits of sctrctl and vsctrctl: those of mctrctl without M and MTE
 abbrev pub s_mask : ℕ
 s_mask = 0x0000FF3E00001983
-
--- the bits of mctrctl that sctrctl doesn't show
-abbrev pub m_only_mask : ℕ
-m_only_mask = 0x204
 
 -- whether a bit belongs to sctrctl and vsctrctl
 abbrev pub is_shown : ControlBit → Bool
@@ -81,9 +78,6 @@ shown_bits =
 -- the masks have the bits of the figure and no other
 pub s_mask_is : mask_of shown_bits ≡ s_mask
 s_mask_is = refl
-
-pub m_only_mask_is : mask_of (M ∷ Mte ∷ []) ≡ m_only_mask
-m_only_mask_is = refl
 
 pub m_mask_is : mask_of (M ∷ Mte ∷ shown_bits) ≡ m_mask
 m_mask_is = refl

@@ -1,6 +1,6 @@
-ghost use Rattle.std.specs.Prelude.{◌≡◌, ◌&&◌, bit_and, bit_or};
-ghost use Rattle.std.specs.Prelude.{if◌then◌else◌};
-ghost use Rattle.ctr_csrs.specs.ControlFigure.{is_on, is_shown, m_mask, s_mask, m_only_mask};
+ghost use Rattle.std.specs.Prelude.{◌≡◌, ◌&&◌, bit_and, if◌then◌else◌};
+ghost use Rattle.ctr_bits.specs.Mask.{merged};
+ghost use Rattle.ctr_csrs.specs.ControlFigure.{is_on, is_shown, m_mask, s_mask};
 ghost use Rattle.ctr_csrs.specs.declared.control_bit.ControlBit.{ControlBit};
 
 use crate::control_bit::{ControlBit, place};
@@ -11,9 +11,6 @@ const M_MASK: u64 = 0x0000FF3E00001B87;
 
 // The bits of `sctrctl` and `vsctrctl`.
 const S_MASK: u64 = 0x0000FF3E00001983;
-
-// M and MTE, the bits of `mctrctl` that `sctrctl` doesn't show.
-const M_ONLY_MASK: u64 = 0x204;
 
 /// What `mctrctl` or `vsctrctl` holds: a word that has no bit outside the register figure of `mctrctl`.
 #[derive(Clone, Copy, Debug, PartialEq, Eq)]
@@ -64,11 +61,11 @@ pub fn legal_m(value: u64) -> Control
 
 /// What `mctrctl` holds after a write of `value` to `sctrctl`: M and MTE stay as they were.
 pub fn legal_s(old: Control, value: u64) -> Control
-    ensures word { result ≡ bit_or (bit_and old m_only_mask) (bit_and value s_mask) }
+    ensures word { result ≡ merged s_mask old value }
     ensures bits { (bit : ControlBit) → is_on result bit ≡ (if is_shown bit then is_on value bit else is_on old bit) }
 {
     Control {
-        word: (old.word & M_ONLY_MASK) | (value & S_MASK),
+        word: (old.word & !S_MASK) | (value & S_MASK),
     }
 }
 

@@ -3,6 +3,7 @@ ghost use Rattle.ctr_csrs.specs.Depths.{entries_of};
 ghost use Rattle.ctr_csrs.specs.StatusFigure.{word_of, pointer_in, frozen_in};
 
 use crate::depth::{Depth, entries};
+use ctr_bits::Field;
 
 /// What `sctrstatus` shows (RISC-V Control Transfer Records 1.0, "Supervisor Control Transfer Records Status
 /// Register").
@@ -30,9 +31,9 @@ pub fn status_of(value: u64, depth: Depth) -> Status
     ensures frozen { result.frozen ≡ frozen_in value }
     ensures within { result.wrptr < entries_of depth }
 {
-    let wrptr = value % 256 % u64::from(entries(depth));
+    let wrptr = Field::<0, 8>::get(value) % u64::from(entries(depth));
     Status {
         wrptr: wrptr as u8,
-        frozen: (value >> 31) % 2 == 1,
+        frozen: Field::<31, 1>::get(value) == 1,
     }
 }
