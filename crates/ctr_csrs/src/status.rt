@@ -24,8 +24,8 @@ pub fn status_word(status: Status) -> u64
     u64::from(status.wrptr) + frozen
 }
 
-/// What a write of `value` to `sctrstatus` sets: WRPTR is bits 7:0 modulo the number of entries, FROZEN is bit 31.
-/// That WRPTR is kept modulo the depth is this project's choice; the standard leaves out-of-range values open.
+/// What a write of `value` to `sctrstatus` sets: WRPTR is bits 7:0 modulo the number of entries, so the bits that the
+/// depth has no use for stay 0, and FROZEN is bit 31.
 pub fn status_of(value: u64, depth: Depth) -> Status
     ensures wrptr { result.wrptr ≡ pointer_in value depth }
     ensures frozen { result.frozen ≡ frozen_in value }
