@@ -236,9 +236,18 @@ none_is_picked p from e i candidate = split (first_for p from M) (first_for p fr
         | inr below ↦ elim below [ inl s ↦ none_for p from S i b candidate s | inr vs ↦ none_for p from Vs i found candidate vs ] ]
 
 -- what is said of an answer that is the picked interrupt
-pub answer_is_first : (p : Priv) (from : Mode) (o : Option ℕ) → o ≡ picked p from → IfSome o (IsFirst p from)
-answer_is_first p from None e = tt
-answer_is_first p from (Some i) e = picked_is_first p from i (sym e)
+pub answer_is_first : (p : Priv) (from : Mode) (o : Option ℕ) → o ≡ picked p from → (i : ℕ) → (o ≡ Some i) ↔ IsFirst p from i
+answer_is_first p from o e i = (λ found. picked_is_first p from i (sym e ∙ found), λ first. only o e first)
+    where
+    only : (o : Option ℕ) → o ≡ picked p from → IsFirst p from i → o ≡ Some i
+    only None e first = absurd (none_is_picked p from (sym e) i first.candidate)
+    only (Some k) e first = elim (cases_eq k i)
+        [ inl same ↦ ap (λ (n : ℕ). Some n) same
+        | inr apart ↦
+            let other = picked_is_first p from k (sym e) in
+            let sooner = first.earliest k other.candidate apart in
+            let later = other.earliest i first.candidate (λ q. apart (sym q)) in
+            absurd (omega (arith, sooner, later)) ]
 
 pub answer_is_none : (p : Priv) (from : Mode) (o : Option ℕ) → o ≡ picked p from → IsNone o ↔ NoCandidate p from
 answer_is_none p from None e = (λ _. none_is_picked p from (sym e), λ _. refl)

@@ -1,7 +1,8 @@
 ghost use Rattle.std.specs.Prelude.{◌≡◌, ◌&&◌, not, IsTrue, IfOk};
 ghost use Rattle.guest_modes.specs.Gate.{gated, is_read_only};
-ghost use Rattle.guest_modes.specs.Numbers.{is_there};
+ghost use Rattle.guest_modes.specs.Numbers.{is_in, is_there, transfer_numbers};
 
+use crate::numbered::is_register;
 use ctr_csrs::Mode;
 
 /// Why an access to a register is refused.
@@ -64,17 +65,15 @@ fn is_possible(csr: u16, write: bool) -> bool
 fn is_known(csr: u16) -> bool
     ensures { result ≡ is_there csr }
 {
+    is_transfer_register(csr) || is_register(csr)
+}
+
+// Whether it is a number of the control transfer records.
+fn is_transfer_register(csr: u16) -> bool
+    ensures { result ≡ is_in csr transfer_numbers }
+{
     matches!(
         csr,
-        // Machine.
-        0x300..=0x305 | 0x340..=0x344 | 0x34A | 0x34B | 0xF11..=0xF15
-        // Supervisor.
-        | 0x100 | 0x104 | 0x105 | 0x140..=0x144 | 0x180
-        // Hypervisor.
-        | 0x600 | 0x602..=0x604 | 0x643..=0x645 | 0x64A | 0x680
-        // VS.
-        | 0x200 | 0x204 | 0x205 | 0x240..=0x244 | 0x280
-        // Control transfer records.
-        | 0x34E | 0x14E | 0x24E | 0x14F | 0x15F | 0x150..=0x153 | 0x155..=0x157 | 0x250..=0x253 | 0x255..=0x257
+        0x34E | 0x14E | 0x24E | 0x14F | 0x15F | 0x150..=0x153 | 0x155..=0x157 | 0x250..=0x253 | 0x255..=0x257
     )
 }

@@ -1,4 +1,4 @@
-ghost use Rattle.std.specs.Prelude.{◌≡◌, ◌<◌, ◌↔◌, ◌&&◌, IsTrue, IsNone, IfSome};
+ghost use Rattle.std.specs.Prelude.{◌≡◌, ℕ, ◌<◌, ◌↔◌, ◌&&◌, IsTrue, IsNone, IfSome};
 ghost use Rattle.guest_modes.specs.Interrupts.{allows, is_candidate, first_for, picked, IsFirst, NoCandidate};
 ghost use Rattle.guest_modes.specs.Numbers.{is_in};
 ghost use Rattle.guest_modes.specs.Traps.{interrupt_order, interrupt_taker, is_same, is_cause, is_trap_between};
@@ -11,7 +11,7 @@ use ctr_csrs::Mode;
 /// Privileged Architecture, "Machine Interrupt Registers" and "Hypervisor Interrupt Registers").
 pub fn pick_interrupt(p: &Priv, mode: Mode) -> Option<u8>
     ensures picked { result ≡ picked p.now mode }
-    ensures first { IfSome result (IsFirst p.now mode) }
+    ensures first { (i : ℕ) → (result ≡ Some i) ↔ IsFirst p.now mode i }
     ensures none { IsNone result ↔ NoCandidate p.now mode }
     ensures cause { IfSome result (λ i. IsTrue (is_cause (Trap.Interrupt i))) }
     ensures between { IfSome result (λ i. IsTrue (is_trap_between mode (interrupt_taker p.now i))) }

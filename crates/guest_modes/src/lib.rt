@@ -8,7 +8,7 @@ pub use entering::enter_trap;
 pub use gating::{CsrFault, gate};
 pub use interrupts::pick_interrupt;
 pub use laws::privilege_laws;
-pub use numbered::{read_csr, write_csr};
+pub use numbered::{is_register, read_csr, write_csr};
 pub use registers::Priv;
 pub use returning::{Ret, leave_trap};
 pub use targets::{Trap, trap_target};
@@ -23,3 +23,5 @@ mod numbered;
 mod registers;
 mod returning;
 mod targets;
+#[cfg(test)]
+mod tests;

@@ -141,6 +141,20 @@ macro_rules! written {
     };
 }
 
+/// Whether the number is that of a register kept here: one of M, S, the hypervisor or VS that isn't a control transfer
+/// record's.
+pub fn is_register(csr: u16) -> bool
+    ensures { result ≡ is_register csr }
+{
+    matches!(
+        csr,
+        0x300..=0x305 | 0x340..=0x344 | 0x34A | 0x34B | 0xF11..=0xF15
+        | 0x100 | 0x104 | 0x105 | 0x140..=0x144 | 0x180
+        | 0x600 | 0x602..=0x604 | 0x643..=0x645 | 0x64A | 0x680
+        | 0x200 | 0x204 | 0x205 | 0x240..=0x244 | 0x280
+    )
+}
+
 /// What a register reads as, by its number.
 pub fn read_csr(p: &Priv, csr: u16) -> u64
     requires { IsTrue (is_register csr) }
