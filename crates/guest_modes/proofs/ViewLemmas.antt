@@ -1,5 +1,5 @@
 -- Views of registers, bit by bit.
-use Rattle.std.proofs.Common.{ℕ, ◌≡◌, ◌≢◌, ◌+◌, ◌-◌, ◌*◌, ◌/◌, ◌%◌, ◌^◌, ◌<◌, ◌≤◌, min, max, suc, Bool, true, ◌||◌, nat_eq, bit_and, bit_or, ◌⊎◌, inl, inr, refl, sym, ◌∙◌, ap, arith, lit<}
+use Rattle.std.proofs.Common.{ℕ, ◌≡◌, ◌≢◌, ◌*◌, ◌/◌, ◌^◌, ◌<◌, ◌≤◌, min, max, suc, Bool, true, ◌||◌, nat_eq, bit_and, bit_or, ◌⊎◌, inl, inr, refl, ◌∙◌, ap, arith, lit<}
 use Rattle.std.proofs.lemmas.Bool.{agree_below_at, or_cases, eqb-true, cases_lt}
 use Rattle.std.proofs.lemmas.Nat.{and_le_r, or_lt, shl-shr}
 use Rattle.std.proofs.lemmas.Nat.Bits.{bit_at-suc, bit_at_and, bit_at_or, bit_at-pow_other, bit_at_above, bit_at-lt}
@@ -37,16 +37,19 @@ lowered_bit w i =
 -- 0x444 has the bits 2, 6 and 10 alone
 pub no_bit : (i : ℕ) → i ≢ 1 → i ≢ 5 → i ≢ 9 → bit_at 0x444 (suc i) ≡ 0
 no_bit i one five nine = bit_at-suc 0x444 i ∙ lower (cases_lt i 16)
-    where
+  where
     test : ℕ → Bool
     test k = nat_eq (bit_at 0x222 k) 0 || (nat_eq k 1 || (nat_eq k 5 || nat_eq k 9))
+
     lower : (i < 16) ⊎ (16 ≤ i) → bit_at 0x222 i ≡ 0
     lower (inr p) = bit_at_above 0x222 16 i (lit< tt) p
-    lower (inl p) = elim (or_cases (nat_eq (bit_at 0x222 i) 0) (nat_eq i 1 || (nat_eq i 5 || nat_eq i 9)) (agree_below_at test (λ k. true) 16 i refl p))
-        [ inl e ↦ eqb-true (bit_at 0x222 i) 0 e
-        | inr a ↦ elim (or_cases (nat_eq i 1) (nat_eq i 5 || nat_eq i 9) a)
-          [ inl e ↦ absurd (one (eqb-true i 1 e))
-          | inr b ↦ elim (or_cases (nat_eq i 5) (nat_eq i 9) b) [ inl e ↦ absurd (five (eqb-true i 5 e)) | inr e ↦ absurd (nine (eqb-true i 9 e)) ] ] ]
+    lower (inl p) = elim (or_cases (nat_eq (bit_at 0x222 i) 0) (nat_eq i 1 || (nat_eq i 5 || nat_eq i 9)) (agree_below_at test (λ k. true) 16 i refl p)) [
+      | inl e ↦ eqb-true (bit_at 0x222 i) 0 e
+      | inr a ↦ elim (or_cases (nat_eq i 1) (nat_eq i 5 || nat_eq i 9) a) [
+        | inl e ↦ absurd (one (eqb-true i 1 e))
+        | inr b ↦ elim (or_cases (nat_eq i 5) (nat_eq i 9) b) [ inl e ↦ absurd (five (eqb-true i 5 e)) | inr e ↦ absurd (nine (eqb-true i 9 e)) ]
+      ]
+    ]
 
 pub guest_view : (m h w : ℕ) → IsGuestView m h w (lowered (bit_and w (shown_in m h)))
 guest_view m h w =
@@ -57,8 +60,8 @@ guest_view m h w =
       external = omega (arith, lowered_bit seen 9, bit_at_and w (shown_in m h) 10, bit_at_and w (shown_in m h) 9, shown_bit m h 10, bit_at-lt w 10, bit_at-lt h 10, bit_at-lt m 10);
       overflow = omega (arith, lowered_bit seen 13, bit_at_and w (shown_in m h) 13, bit_at_and w (shown_in m h) 14, shown_bit m h 13, bit_at-lt w 13, bit_at-lt h 13, bit_at-lt m 13);
       others = λ i one five nine thirteen.
-        let high : bit_at 0x2000 i ≡ 0 = bit_at-pow_other 13 i thirteen in
-        omega (arith, lowered_bit seen i, no_bit i one five nine, high);
+          let high : bit_at 0x2000 i ≡ 0 = bit_at-pow_other 13 i thirteen in
+          omega (arith, lowered_bit seen i, no_bit i one five nine, high);
     }
 
 pub doubled_bit : (v i : ℕ) → bit_at (v * 2) (suc i) ≡ bit_at v i

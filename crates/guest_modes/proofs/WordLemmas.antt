@@ -1,11 +1,11 @@
 -- Words that lie within a mask, and what writes keep of it.
-use Rattle.std.proofs.Common.{ℕ, ◌≡◌, ◌≢◌, ◌+◌, ◌-◌, ◌/◌, ◌%◌, ◌^◌, ◌<◌, bit_and, bit_or, sym, ◌∙◌, ap, refl, arith, lit<, lit≤}
+use Rattle.std.proofs.Common.{ℕ, ◌≡◌, ◌≢◌, ◌-◌, ◌/◌, ◌%◌, ◌^◌, ◌<◌, bit_and, bit_or, sym, ◌∙◌, ap, refl, arith, lit<, lit≤}
 use Rattle.std.proofs.lemmas.Nat.{and_assoc, and_comm, mod_below}
 use Rattle.std.proofs.lemmas.Nat.Bits.{bit_at_and, bit_at_or, same_from_bits}
 use Rattle.ctr_bits.specs.Field.{field_of, with_field}
 use Rattle.ctr_bits.specs.FieldLaws.{get_after_put}
 use Rattle.ctr_bits.specs.Mask.{merged}
-use Rattle.ctr_bits.specs.MaskBits.{narrower_mask_counts, field_in_mask, put_leaves_mask, put_stays_within, merged_stays_within, field_of_merged_off}
+use Rattle.ctr_bits.specs.MaskBits.{field_in_mask, put_leaves_mask, put_stays_within, merged_stays_within, field_of_merged_off}
 use Rattle.guest_modes.specs.declared.registers.Priv.{Priv}
 use Rattle.guest_modes.specs.Registers.{shown}
 use Rattle.guest_modes.specs.Words.{IsWithin, IsStatus}

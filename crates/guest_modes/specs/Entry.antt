@@ -1,5 +1,5 @@
 -- What taking a trap does (Privileged Architecture, "Trap Entry" of the hypervisor extension; mtvec, stvec, vstvec).
-use Rattle.std.specs.Prelude.{ℕ, ◌+◌, ◌*◌, ◌/◌, ◌%◌, ◌^◌, Bool, cond, List, [], ◌∷◌}
+use Rattle.std.specs.Prelude.{ℕ, ◌+◌, ◌*◌, ◌/◌, ◌%◌, ◌^◌, cond, [], ◌∷◌}
 use Rattle.ctr_bits.specs.Field.{field_of}
 use Rattle.ctr_csrs.specs.declared.mode.Mode.{Mode}
 use Rattle.ctr_csrs.specs.declared.mode.Mode.TheVariants.{M, S, U, Vs, Vu}

@@ -1,6 +1,6 @@
 -- The registers of a hart with the hypervisor extension that its software reads and writes by number (Privileged
 -- Architecture, "Machine-Level ISA", "Supervisor-Level ISA" and "Hypervisor Extension"): a row for each number.
-use Rattle.std.specs.Prelude.{ℕ, ◌*◌, ◌/◌, Bool, cond, nat_eq, List, [], ◌∷◌, bit_and, bit_or}
+use Rattle.std.specs.Prelude.{ℕ, ◌*◌, ◌/◌, cond, nat_eq, List, [], ◌∷◌, bit_and, bit_or}
 use Rattle.ctr_bits.specs.Mask.{merged}
 use Rattle.guest_modes.specs.declared.registers.Priv.{Priv}
 use Rattle.guest_modes.specs.Words.{status_written}
@@ -103,7 +103,7 @@ row_in (r ∷ rs) number other = cond (nat_eq r.number number) r (row_in rs numb
 abbrev pub row_of : ℕ → Row
 row_of number =
     row_in machine_registers number
-        (row_in supervisor_registers number (row_in hypervisor_registers number (row_in virtual_registers number (fixed number 0))))
+    (row_in supervisor_registers number (row_in hypervisor_registers number (row_in virtual_registers number (fixed number 0))))
 
 abbrev pub read_of : ℕ → Priv → ℕ
 read_of number p = (row_of number).reads p

@@ -1,5 +1,5 @@
 -- What MRET and SRET do (Privileged Architecture, "Trap-Return Instructions", "Trap Return" of the hypervisor extension).
-use Rattle.std.specs.Prelude.{ℕ, Bool, cond, nat_eq, List, [], ◌∷◌}
+use Rattle.std.specs.Prelude.{ℕ, cond, nat_eq, [], ◌∷◌}
 use Rattle.ctr_bits.specs.Field.{field_of}
 use Rattle.ctr_csrs.specs.declared.mode.Mode.{Mode}
 use Rattle.ctr_csrs.specs.declared.mode.Mode.TheVariants.{M, S, U, Vs, Vu}

@@ -1,5 +1,5 @@
 -- Registers that show a part of another one, bit by bit.
-use Rattle.std.specs.Prelude.{◌≡◌, ◌≢◌, ℕ, ◌<◌, ◌^◌, min, bit_and, List, [], ◌∷◌, All}
+use Rattle.std.specs.Prelude.{◌≡◌, ◌≢◌, ℕ, ◌<◌, min, bit_and, List, [], ◌∷◌, All}
 use Rattle.std.specs.Int.{bit_at}
 use Rattle.guest_modes.specs.declared.registers.Priv.{Priv}
 use Rattle.guest_modes.specs.Registers.{read_of, written_of, shown, lifted}

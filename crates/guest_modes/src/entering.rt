@@ -63,7 +63,8 @@ fn enter_s(p: &mut Priv, mode: Mode, seen: Trap, pc: u64, value: u64) -> u64
     p.stval = value;
     p.htval = 0;
     p.htinst = 0;
-    p.mstatus = p.mstatus
+    p.mstatus = p
+        .mstatus
         .put::<8, 1>(supervisor_bit(mode))
         .put::<5, 1>(enabled)
         .put::<1, 1>(0);
@@ -81,7 +82,8 @@ fn enter_vs(p: &mut Priv, mode: Mode, seen: Trap, pc: u64, value: u64) -> u64
     p.vsepc = Masked::of(pc);
     p.vscause = cause(seen);
     p.vstval = value;
-    p.vsstatus = p.vsstatus
+    p.vsstatus = p
+        .vsstatus
         .put::<8, 1>(supervisor_bit(mode))
         .put::<5, 1>(enabled)
         .put::<1, 1>(0);

@@ -5,5 +5,4 @@ pub fn privilege_laws()
     ensures views_write_their_bits { ViewsWriteTheirBits }
     ensures guest_sees_its_interrupts { GuestSeesItsInterrupts }
     ensures guest_bits_are_lifted { GuestBitsAreLifted }
-{
-}
+{}

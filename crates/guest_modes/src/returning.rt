@@ -29,7 +29,8 @@ pub fn leave_trap(p: &mut Priv, ret: Ret) -> (Mode, u64)
         Ret::Mret => {
             let status = p.mstatus.get();
             let mode = mode_named(Field::<11, 2>::get(status), Field::<39, 1>::get(status));
-            p.mstatus = p.mstatus
+            p.mstatus = p
+                .mstatus
                 .put::<3, 1>(Field::<7, 1>::get(status))
                 .put::<7, 1>(1)
                 .put_mpp(0)
@@ -38,8 +39,12 @@ pub fn leave_trap(p: &mut Priv, ret: Ret) -> (Mode, u64)
         }
         Ret::SretHs => {
             let status = p.mstatus.get();
-            let mode = mode_named(Field::<8, 1>::get(status), Field::<7, 1>::get(p.hstatus.get()));
-            p.mstatus = p.mstatus
+            let mode = mode_named(
+                Field::<8, 1>::get(status),
+                Field::<7, 1>::get(p.hstatus.get()),
+            );
+            p.mstatus = p
+                .mstatus
                 .put::<1, 1>(Field::<5, 1>::get(status))
                 .put::<5, 1>(1)
                 .put::<8, 1>(0);
@@ -49,7 +54,8 @@ pub fn leave_trap(p: &mut Priv, ret: Ret) -> (Mode, u64)
         Ret::SretVs => {
             let status = p.vsstatus.get();
             let mode = mode_named(Field::<8, 1>::get(status), 1);
-            p.vsstatus = p.vsstatus
+            p.vsstatus = p
+                .vsstatus
                 .put::<1, 1>(Field::<5, 1>::get(status))
                 .put::<5, 1>(1)
                 .put::<8, 1>(0);
