@@ -98,7 +98,7 @@ ends_not_built before now gained sink sink' reads reads' (Some WriteFault) b s n
 ends_not_built before now gained sink sink' reads reads' (Some Memory) b s n ran read is form stop kept = inr refl
 ends_not_built before now gained sink sink' reads reads' (Some (NotBuilt m)) b s n ran read is form stop kept =
     inl (ap (λ (k : ℕ). Some (NotBuilt k))
-        (first_stop s m n (subst (λ (t : Schedule). StopsAtStep t m) (sym (same_schedule before now ran.text b ran.schedule s is ran.heard form)) ran.stop) stop))
+    (first_stop s m n (subst (λ (t : Schedule). StopsAtStep t m) (sym (same_schedule before now ran.text b ran.schedule s is ran.heard form)) ran.stop) stop))
 ends_not_built before now gained sink sink' reads reads' (Some OtherForm) b s n ran read is form stop kept =
     absurd (was_refused before gained sink sink' b s is ran form)
 

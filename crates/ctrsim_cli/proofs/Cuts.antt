@@ -25,13 +25,13 @@ cut_position at [] = refl
 cut_position at (b ∷ rest) =
     let i = position_or_len (λ x. nat_eq x at) rest in
     let here : Some ([], rest) ≡ parts_at (b ∷ rest) (cond (nat_lt 0 (suc (length rest))) (Some 0) None)
-        = sym (ap (λ found. parts_at (b ∷ rest) (cond found (Some 0) None)) (at_front (length rest))) in
+    = sym (ap (λ found. parts_at (b ∷ rest) (cond found (Some 0) None)) (at_front (length rest))) in
     let more : before b (cut at rest) ≡ parts_at (b ∷ rest) (cond (nat_lt (1 + i) (suc (length rest))) (Some (1 + i)) None)
-        = ap (before b) (cut_position at rest) ∙ cut_more b rest i (nat_lt i (length rest))
-            ∙ ap (λ found. parts_at (b ∷ rest) (cond found (Some (1 + i)) None)) (sym (later i (length rest))) in
+    = ap (before b) (cut_position at rest) ∙ cut_more b rest i (nat_lt i (length rest))
+    ∙ ap (λ found. parts_at (b ∷ rest) (cond found (Some (1 + i)) None)) (sym (later i (length rest))) in
     elim (nat_eq b at) as (λ v. cond v (Some ([], rest)) (before b (cut at rest))
-            ≡ parts_at (b ∷ rest) (cond (nat_lt (cond (not v) (1 + i) 0) (suc (length rest))) (Some (cond (not v) (1 + i) 0)) None))
-        [ true ↦ here | false ↦ more ]
+    ≡ parts_at (b ∷ rest) (cond (nat_lt (cond (not v) (1 + i) 0) (suc (length rest))) (Some (cond (not v) (1 + i) 0)) None))
+    [ true ↦ here | false ↦ more ]
 
 -- a text is what it was cut into
 abbrev pub pair : List ℕ → List ℕ → Option (List ℕ × List ℕ)

@@ -29,8 +29,8 @@ lone_stack image mem zero = refl
 lone_stack image mem (suc n) =
     let told = lone image mem n in
     next_stack_by (fetched told.state) told.state
-        ∙ ap (λ (k : List Entry). fold after k (events_of told.state)) (lone_stack image mem n)
-        ∙ sym (fold-append after no_entries told.history (events_of told.state))
+    ∙ ap (λ (k : List Entry). fold after k (events_of told.state)) (lone_stack image mem n)
+    ∙ sym (fold-append after no_entries told.history (events_of told.state))
 
 pub all_built : (image : List ℕ) (mem n : ℕ) → BuiltFrom (fresh image mem) n → AllBuilt image mem n
 all_built image mem n h k within = ap built (lone_state image mem k) ∙ h k within
@@ -56,6 +56,7 @@ steps_built image mem n first e h = all_built image mem n (subst (λ (s : State)
 
 pub stops : (s : Schedule) (n : ℕ) (first : State) → first ≡ fresh s.image s.mem → StopsAt first s.steps n → StopsAtStep s n
 stops s n first e stop = record {
-    within = stop.within;
-    before = steps_built s.image s.mem n first e stop.built_before;
-    stop = not_built s.image s.mem n (ap (λ (t : State). built (advanced n t)) (sym e) ∙ stop.not_built) }
+  within = stop.within;
+  before = steps_built s.image s.mem n first e stop.built_before;
+  stop = not_built s.image s.mem n (ap (λ (t : State). built (advanced n t)) (sym e) ∙ stop.not_built);
+}

@@ -21,8 +21,19 @@ branches_of stack = map branch_of (live stack)
 -- mode M is the hypervisor's; the task is number 0, and pid and tid are its number plus 1; what the layout leaves out is 0
 abbrev pub sample_at : ℕ → List Entry → Sample
 sample_at pc stack = record {
-    misc = 3; identifier = 0; ip = pc; pid = 1; tid = 1; time = 0; addr = 0; id = 0; stream_id = 0; cpu = 0; period = 0;
-    branches = branches_of stack }
+  misc = 3;
+  identifier = 0;
+  ip = pc;
+  pid = 1;
+  tid = 1;
+  time = 0;
+  addr = 0;
+  id = 0;
+  stream_id = 0;
+  cpu = 0;
+  period = 0;
+  branches = branches_of stack;
+}
 
 abbrev pub sample_of : Told → Sample
 sample_of t = sample_at t.state.core.pc (stack_of t.history)

@@ -33,6 +33,7 @@ no_entries = replicate 16 no_entry
 -- before the first step: registers of 0, the image with zeros after it, and no record
 abbrev pub fresh : List ℕ → ℕ → State
 fresh image mem = record {
-    core = record { x = replicate 32 0; pc = base };
-    bytes = image ++ replicate (mem - length image) 0;
-    stack = no_entries }
+  core = record { x = replicate 32 0; pc = base };
+  bytes = image ++ replicate (mem - length image) 0;
+  stack = no_entries;
+}

@@ -39,9 +39,10 @@ events_of s = events_by (fetched s) s.core
 -- the state with these registers and this program counter, after a transfer of this type, if any, from the present one
 abbrev pub moved : List ℕ → ℕ → Option XferType → State → State
 moved x target kind s = record {
-    core = record { x = x; pc = target };
-    bytes = s.bytes;
-    stack = fold after s.stack (admitted_if s.core.pc target kind) }
+  core = record { x = x; pc = target };
+  bytes = s.bytes;
+  stack = fold after s.stack (admitted_if s.core.pc target kind);
+}
 
 -- the state after the step; the records are those that its events leave
 abbrev pub next_by : Option Instr → State → State

@@ -9,4 +9,4 @@ returns-in_err-place-clause-none c =
 pub returns-clause-some : goal.returns-clause-some
 returns-clause-some c =
     rw (c.split_at.ensures.front, c.split_at-2.ensures.back)
-        (cut_position c.args.at c.args.text.now ∙ ap (parts_at c.args.text.now) (sym c.place_of.ensures.place ∙ c.in_ok-place.was))
+    (cut_position c.args.at c.args.text.now ∙ ap (parts_at c.args.text.now) (sym c.place_of.ensures.place ∙ c.in_ok-place.was))

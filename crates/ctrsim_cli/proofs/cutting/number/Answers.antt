@@ -11,7 +11,7 @@ loop-digit-preserved c =
     let i = c.loop-digit.digit-index in
     let digit : IsDigit (slice_index_or word i 0) = (c.if-digit-lt48.false, c.if-digit-gt57.false) in
     record {
-        bound = omega (arith, ten_more i, c.loop-digit.invariant.bound, c.from.ensures, c.if-digit-gt57.false);
-        digits = subst (All IsDigit) (sym (take_more word i 0 c.loop-digit-test.true)) (All-push IsDigit (take i word) (slice_index_or word i 0) c.loop-digit.invariant.digits digit);
-        value = omega (arith, c.loop-digit.invariant.value, c.from.ensures, value_more word i c.loop-digit-test.true);
+      bound = omega (arith, ten_more i, c.loop-digit.invariant.bound, c.from.ensures, c.if-digit-gt57.false);
+      digits = subst (All IsDigit) (sym (take_more word i 0 c.loop-digit-test.true)) (All-push IsDigit (take i word) (slice_index_or word i 0) c.loop-digit.invariant.digits digit);
+      value = omega (arith, c.loop-digit.invariant.value, c.from.ensures, value_more word i c.loop-digit-test.true);
     }

@@ -25,9 +25,9 @@ pub returns-else-n-lt10-clause-items : goal.returns-else-n-lt10-clause-items
 returns-else-n-lt10-clause-items t c =
     let last = (48 + c.args.n % 10) ∷ [] in
     c.push-else-n-lt10.ensures.items
-        ∙ ap (λ (d : List ℕ). d ++ last) c.put_number.ensures.items
-        ∙ append_assoc c.args.line.now.items (decimal (c.args.n / 10)) last
-        ∙ ap (λ (d : List ℕ). c.args.line.now.items ++ d) (sym (step_digit c.args.n c.if-n-lt10.false c.ranges.n))
+    ∙ ap (λ (d : List ℕ). d ++ last) c.put_number.ensures.items
+    ∙ append_assoc c.args.line.now.items (decimal (c.args.n / 10)) last
+    ∙ ap (λ (d : List ℕ). c.args.line.now.items ++ d) (sym (step_digit c.args.n c.if-n-lt10.false c.ranges.n))
 
 pub returns-else-n-lt10-clause-len : goal.returns-else-n-lt10-clause-len
 returns-else-n-lt10-clause-len t c =

@@ -13,5 +13,5 @@ pub returns : goal.returns
 returns c =
     let tail = codes " isn't built" ++ 10 ∷ [] in
     c.put-2.ensures.items
-        ∙ ap (λ (t : List ℕ). t ++ (codes " isn't built" ++ 10 ∷ [])) (c.put_number.ensures.items ∙ ap (λ (t : List ℕ). t ++ decimal c.args.step) c.put.ensures.items)
-        ∙ ap (λ (t : List ℕ). (t ++ codes "ctrsim: step " ++ decimal c.args.step) ++ tail) c.new-line.ensures ∙ line_joined (codes "ctrsim: step ") (decimal c.args.step) (codes " isn't built") (10 ∷ [])
+    ∙ ap (λ (t : List ℕ). t ++ (codes " isn't built" ++ 10 ∷ [])) (c.put_number.ensures.items ∙ ap (λ (t : List ℕ). t ++ decimal c.args.step) c.put.ensures.items)
+    ∙ ap (λ (t : List ℕ). (t ++ codes "ctrsim: step " ++ decimal c.args.step) ++ tail) c.new-line.ensures ∙ line_joined (codes "ctrsim: step ") (decimal c.args.step) (codes " isn't built") (10 ∷ [])

@@ -10,6 +10,6 @@ pub returns-in_err-steps-clause-only : goal.returns-in_err-steps-clause-only
 returns-in_err-steps-clause-only c = λ s h.
     let same = c.in_ok-len.ensures.only (length s.image) s.mem h.body h.head in
     absurd (some_is_none s.steps (c.in_err-steps.ensures.only s.steps
-        (subst (λ (t : List ℕ). IsTail t s.steps)
-            (sym (c.split_at.ensures.back ∙ ap (λ (n : ℕ). drop n c.in_ok-len.body.now) same.0 ∙ ap (λ (t : List ℕ). drop (length s.image) t) same.2))
-            h.tail)))
+    (subst (λ (t : List ℕ). IsTail t s.steps)
+    (sym (c.split_at.ensures.back ∙ ap (λ (n : ℕ). drop n c.in_ok-len.body.now) same.0 ∙ ap (λ (t : List ℕ). drop (length s.image) t) same.2))
+    h.tail)))

@@ -6,7 +6,7 @@ pub returns-clause-all_done : goal.returns-clause-all_done
 returns-clause-all_done g c = λ run text s is form all kept sent.
     let ran = known c.args.words.now g.S.Source.left c.args.source.now c.command-fault.new.source g.K.Sink.gained c.args.sink.now c.command-fault.new.sink c.command-fault.result run c.command-fault.ensures.ends in
     subst (λ (n : ℕ). (n ≡ 0) ⊎ (n ≡ 7)) (sym c.status.ensures)
-        (ends_done _ _ g.K.Sink.gained _ _ _ _ _ _ c.command-fault.result text s ran c.command-fault.ensures.read c.command-fault.ensures.write is form all kept sent)
+    (ends_done _ _ g.K.Sink.gained _ _ _ _ _ _ c.command-fault.result text s ran c.command-fault.ensures.read c.command-fault.ensures.write is form all kept sent)
 
 pub returns-clause-all_not_built : goal.returns-clause-all_not_built
 returns-clause-all_not_built g c = λ run text s n is form stop kept.
