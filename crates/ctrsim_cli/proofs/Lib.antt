@@ -5,3 +5,4 @@ mod Digits
 mod Heard
 mod Pushes
 mod Runs
+mod Worked

@@ -11,3 +11,4 @@ pub mod Fault
 pub mod Form
 pub mod Ended
 pub mod Performed
+pub mod Worked

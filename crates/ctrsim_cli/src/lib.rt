@@ -5,6 +5,7 @@ mod command;
 mod cutting;
 mod fault;
 mod input;
+mod laws;
 mod machine;
 mod notes;
 mod records;
@@ -13,4 +14,5 @@ mod small_form;
 mod top;
 
 pub use fault::{Fault, Outcome};
+pub use laws::{lone_run_laws, worked_runs};
 pub use top::ctrsim;

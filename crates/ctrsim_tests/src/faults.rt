@@ -8,6 +8,69 @@ const CALL: &[u8] = b"\xEF\x00\x80\x00";
 const ROW: &[u8] =
     b"ctr-schedule 1\nharts 1\nlayout 803\ntask 4 8 0 4 0 0\nimages\n\xEF\x00\x80\x00run 0 0 1\nsample 0\nend\n";
 
+// The words IMAGE and MEM, the image, the word STEPS, the step that isn't built, and what is said of it.
+const NOT_BUILT: [(&[u8], &[u8], &[u8], u64, &[u8]); 6] = [
+    (
+        b"4 4",
+        b"\x73\x00\x00\x00",
+        b"1",
+        0,
+        b"ctrsim: step 0 isn't built\n",
+    ), // ECALL
+    (
+        b"4 4",
+        b"\xFF\xFF\xFF\xFF",
+        b"1",
+        0,
+        b"ctrsim: step 0 isn't built\n",
+    ), // no instruction
+    (
+        b"4 4",
+        b"\x93\x82\x12\x00",
+        b"11",
+        1,
+        b"ctrsim: step 1 isn't built\n",
+    ), // past the end of memory
+    (
+        b"4 4",
+        b"\x6F\x00\x20\x00",
+        b"1",
+        0,
+        b"ctrsim: step 0 isn't built\n",
+    ), // jal x0, 2
+    (
+        b"4 4",
+        b"\x67\x00\x00\x00",
+        b"2",
+        1,
+        b"ctrsim: step 1 isn't built\n",
+    ), // jalr x0, 0(x0), then at 0
+    (
+        b"8 8",
+        b"\x13\x00\x00\x00\x13\x10\x10\x00",
+        b"5",
+        1,
+        b"ctrsim: step 1 isn't built\n",
+    ), // addi, then slli
+];
+
+const OTHER_FORMS: [&[u8]; 14] = [
+    b"",
+    b"ctr-schedule 1\nharts 2\nlayout 803\ntask 4 8 0 4 0 0\nimages\n\xEF\x00\x80\x00run 0 0 1\nsample 0\nend\n",
+    b"ctr-schedule 1\nharts 1\nlayout 0803\ntask 4 8 0 4 0 0\nimages\n\xEF\x00\x80\x00run 0 0 1\nsample 0\nend\n",
+    b"ctr-schedule 1\nharts 1\nlayout 803\ntask 4  8 0 4 0 0\nimages\n\xEF\x00\x80\x00run 0 0 1\nsample 0\nend\n", // two spaces
+    b"ctr-schedule 1\nharts 1\nlayout 803\ntask 12 8 0 4 0 0\nimages\n\xEF\x00\x80\x00run 0 0 1\nsample 0\nend\n", // image above memory
+    b"ctr-schedule 1\nharts 1\nlayout 803\ntask 4 6 0 4 0 0\nimages\n\xEF\x00\x80\x00run 0 0 1\nsample 0\nend\n", // no multiple of 4
+    b"ctr-schedule 1\nharts 1\nlayout 803\ntask 4 4100 0 4 0 0\nimages\n\xEF\x00\x80\x00run 0 0 1\nsample 0\nend\n",
+    b"ctr-schedule 1\nharts 1\nlayout 803\ntask 0 0 0 4 0 0\nimages\nrun 0 0 1\nsample 0\nend\n",
+    b"ctr-schedule 1\nharts 1\nlayout 803\ntask 4 +8 0 4 0 0\nimages\n\xEF\x00\x80\x00run 0 0 1\nsample 0\nend\n", // a sign
+    b"ctr-schedule 1\nharts 1\nlayout 803\ntask 4 8 0 4 0 0\nimages\n\xEF\x00\x80\x00run 0 0 1000000001\nsample 0\nend\n",
+    b"ctr-schedule 1\nharts 1\nlayout 803\ntask 4 8 0 4 0 0\nimages\n\xEF\x00\x80\x00run 0 0 00000000001\nsample 0\nend\n", // 11 digits
+    b"ctr-schedule 1\nharts 1\nlayout 803\ntask 4 8 0 4 0 0\nimages\n\xEF\x00\x80\x00run 0 0 1\nsample 0\nend", // no line feed
+    b"ctr-schedule 1\nharts 1\nlayout 803\ntask 4 8 0 4 0 0\nimages\n\xEF\x00\x80\x00run 0 0 1\nsample 0\nend\n\n", // more
+    b"ctr-schedule 1\nharts 1\nlayout 803\ntask 4 8 0 4 0 0\nimages\n\xEF\x00",
+];
+
 #[test]
 fn other_words_are_usage_and_touch_nothing(rt: HostRuntime) -> Result<(), NoMemory> {
     let usage = Outcome {
@@ -36,51 +99,7 @@ fn other_words_are_usage_and_touch_nothing(rt: HostRuntime) -> Result<(), NoMemo
 
 #[test]
 fn a_step_that_is_not_built_is_named(rt: HostRuntime) -> Result<(), NoMemory> {
-    let cases: [(&[u8], &[u8], &[u8], u64, &[u8]); 6] = [
-        (
-            b"4 4",
-            b"\x73\x00\x00\x00",
-            b"1",
-            0,
-            b"ctrsim: step 0 isn't built\n",
-        ), // ECALL
-        (
-            b"4 4",
-            b"\xFF\xFF\xFF\xFF",
-            b"1",
-            0,
-            b"ctrsim: step 0 isn't built\n",
-        ), // no instruction
-        (
-            b"4 4",
-            b"\x93\x82\x12\x00",
-            b"11",
-            1,
-            b"ctrsim: step 1 isn't built\n",
-        ), // past the end of memory
-        (
-            b"4 4",
-            b"\x6F\x00\x20\x00",
-            b"1",
-            0,
-            b"ctrsim: step 0 isn't built\n",
-        ), // jal x0, 2
-        (
-            b"4 4",
-            b"\x67\x00\x00\x00",
-            b"2",
-            1,
-            b"ctrsim: step 1 isn't built\n",
-        ), // jalr x0, 0(x0), then at 0
-        (
-            b"8 8",
-            b"\x13\x00\x00\x00\x13\x10\x10\x00",
-            b"5",
-            1,
-            b"ctrsim: step 1 isn't built\n",
-        ), // addi, then slli
-    ];
-    for (sizes, image, steps, number, said) in cases {
+    for (sizes, image, steps, number, said) in NOT_BUILT {
         let text = schedule(rt.alloc(), sizes, image, steps)?;
         let ended = call(rt.alloc(), &["run"], text.as_slice(), &[], 4096)?;
         let want = Outcome {
@@ -96,27 +115,11 @@ fn a_step_that_is_not_built_is_named(rt: HostRuntime) -> Result<(), NoMemory> {
 
 #[test]
 fn text_of_another_form_is_refused(rt: HostRuntime) -> Result<(), NoMemory> {
-    let cases: [&[u8]; 14] = [
-        b"",
-        b"ctr-schedule 1\nharts 2\nlayout 803\ntask 4 8 0 4 0 0\nimages\n\xEF\x00\x80\x00run 0 0 1\nsample 0\nend\n",
-        b"ctr-schedule 1\nharts 1\nlayout 0803\ntask 4 8 0 4 0 0\nimages\n\xEF\x00\x80\x00run 0 0 1\nsample 0\nend\n",
-        b"ctr-schedule 1\nharts 1\nlayout 803\ntask 4  8 0 4 0 0\nimages\n\xEF\x00\x80\x00run 0 0 1\nsample 0\nend\n", // two spaces
-        b"ctr-schedule 1\nharts 1\nlayout 803\ntask 12 8 0 4 0 0\nimages\n\xEF\x00\x80\x00run 0 0 1\nsample 0\nend\n", // image above memory
-        b"ctr-schedule 1\nharts 1\nlayout 803\ntask 4 6 0 4 0 0\nimages\n\xEF\x00\x80\x00run 0 0 1\nsample 0\nend\n", // no multiple of 4
-        b"ctr-schedule 1\nharts 1\nlayout 803\ntask 4 4100 0 4 0 0\nimages\n\xEF\x00\x80\x00run 0 0 1\nsample 0\nend\n",
-        b"ctr-schedule 1\nharts 1\nlayout 803\ntask 0 0 0 4 0 0\nimages\nrun 0 0 1\nsample 0\nend\n",
-        b"ctr-schedule 1\nharts 1\nlayout 803\ntask 4 +8 0 4 0 0\nimages\n\xEF\x00\x80\x00run 0 0 1\nsample 0\nend\n", // a sign
-        b"ctr-schedule 1\nharts 1\nlayout 803\ntask 4 8 0 4 0 0\nimages\n\xEF\x00\x80\x00run 0 0 1000000001\nsample 0\nend\n",
-        b"ctr-schedule 1\nharts 1\nlayout 803\ntask 4 8 0 4 0 0\nimages\n\xEF\x00\x80\x00run 0 0 00000000001\nsample 0\nend\n", // 11 digits
-        b"ctr-schedule 1\nharts 1\nlayout 803\ntask 4 8 0 4 0 0\nimages\n\xEF\x00\x80\x00run 0 0 1\nsample 0\nend", // no line feed
-        b"ctr-schedule 1\nharts 1\nlayout 803\ntask 4 8 0 4 0 0\nimages\n\xEF\x00\x80\x00run 0 0 1\nsample 0\nend\n\n", // more
-        b"ctr-schedule 1\nharts 1\nlayout 803\ntask 4 8 0 4 0 0\nimages\n\xEF\x00",
-    ];
     let want = Outcome {
         status: 9,
         fault: Some(Fault::OtherForm),
     };
-    for text in cases {
+    for text in OTHER_FORMS {
         let ended = call(rt.alloc(), &["run"], text, &[], 4096)?;
         assert_eq!(rt; ended.outcome, want, "{text:?}");
         assert_eq!(rt; ended.sink.bytes().len(), 0);

@@ -23,6 +23,43 @@ const ONE_CALL: [u8; 56] = [
     0, 0, 0x40, 0, 0, 0, 0, 0, // flags: a call
 ];
 
+const CALL_BRANCH: &[(u64, u64, u64)] = &[(0x8000_0000, 0x8000_0008, 0x40_0000)];
+
+const TAKEN_BRANCH: &[(u64, u64, u64)] = &[(0x8000_0000, 0x8000_0008, 0x10_0000)];
+
+// The words IMAGE and MEM, the image, the word STEPS, the ip, and the branches.
+const SAMPLED: [(&[u8], &[u8], &[u8], u64, &[(u64, u64, u64)]); 6] = [
+    (b"4 8", CALL, b"1", 0x8000_0008, CALL_BRANCH),
+    (b"4 8", CALL, b"0", 0x8000_0000, &[]),
+    (
+        b"0000000004 08",
+        CALL,
+        b"0000000001",
+        0x8000_0008,
+        CALL_BRANCH,
+    ), // leading zeros
+    (
+        b"4 12",
+        b"\x63\x04\x00\x00",
+        b"1",
+        0x8000_0008,
+        TAKEN_BRANCH,
+    ), // 00000463 beq x0, x0, 8
+    (b"4 4", b"\x63\x14\x00\x00", b"1", 0x8000_0004, &[]), // 00001463 bne x0, x0, 8 isn't taken
+    (
+        // addi x5, x0, 2; addi x5, x5, -1; bne x5, x0, -4; jal x6, 4; jalr x1, 0(x6)
+        b"20 20",
+        b"\x93\x02\x20\x00\x93\x82\xF2\xFF\xE3\x9E\x02\xFE\x6F\x03\x40\x00\xE7\x00\x03\x00",
+        b"7",
+        0x8000_0010,
+        &[
+            (0x8000_0010, 0x8000_0010, 0x50_0000), // JALR with the link in x1: an indirect call
+            (0x8000_000C, 0x8000_0010, 0x20_0000), // JAL with the link in x6: no call
+            (0x8000_0008, 0x8000_0004, 0x10_0000), // taken once; the second time it isn't
+        ],
+    ),
+];
+
 // A sample of mode M with this ip and these branches, youngest first: from, to, flags.
 fn sample(alloc: Global, ip: u64, branches: &[(u64, u64, u64)]) -> Result<Vec<u8>, AllocError> {
     let size = (branches.len() as u64).wrapping_mul(24).wrapping_add(32);
@@ -52,28 +89,7 @@ fn one_call_is_these_bytes(rt: HostRuntime) -> Result<(), NoMemory> {
 
 #[test]
 fn schedules_give_the_sample_of_their_last_step(rt: HostRuntime) -> Result<(), NoMemory> {
-    let one_call: &[(u64, u64, u64)] = &[(0x8000_0000, 0x8000_0008, 0x40_0000)];
-    let one_branch: &[(u64, u64, u64)] = &[(0x8000_0000, 0x8000_0008, 0x10_0000)];
-    let cases: [(&[u8], &[u8], &[u8], u64, &[(u64, u64, u64)]); 6] = [
-        (b"4 8", CALL, b"1", 0x8000_0008, one_call),
-        (b"4 8", CALL, b"0", 0x8000_0000, &[]),
-        (b"0000000004 08", CALL, b"0000000001", 0x8000_0008, one_call), // leading zeros
-        (b"4 12", b"\x63\x04\x00\x00", b"1", 0x8000_0008, one_branch), // 00000463 beq x0, x0, 8
-        (b"4 4", b"\x63\x14\x00\x00", b"1", 0x8000_0004, &[]), // 00001463 bne x0, x0, 8 isn't taken
-        (
-            // addi x5, x0, 2; addi x5, x5, -1; bne x5, x0, -4; jal x6, 4; jalr x1, 0(x6)
-            b"20 20",
-            b"\x93\x02\x20\x00\x93\x82\xF2\xFF\xE3\x9E\x02\xFE\x6F\x03\x40\x00\xE7\x00\x03\x00",
-            b"7",
-            0x8000_0010,
-            &[
-                (0x8000_0010, 0x8000_0010, 0x50_0000), // JALR with the link in x1: an indirect call
-                (0x8000_000C, 0x8000_0010, 0x20_0000), // JAL with the link in x6: no call
-                (0x8000_0008, 0x8000_0004, 0x10_0000), // taken once; the second time it isn't
-            ],
-        ),
-    ];
-    for (sizes, image, steps, ip, branches) in cases {
+    for (sizes, image, steps, ip, branches) in SAMPLED {
         let want = sample(rt.alloc(), ip, branches)?;
         let text = schedule(rt.alloc(), sizes, image, steps)?;
         for pieces in [&[].as_slice(), &[1].as_slice(), &[7, 2].as_slice()] {
