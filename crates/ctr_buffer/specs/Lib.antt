@@ -1,4 +1,5 @@
 pub mod Entry
 pub mod History
+pub mod HistoryLaws
 pub mod Live
 pub mod Stack

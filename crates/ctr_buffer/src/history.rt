@@ -1,6 +1,6 @@
 ghost use Rattle.std.specs.Prelude.{◌≡◌, ◌<◌, List, [], ◌∷◌, ◌++◌, fold};
-ghost use Rattle.ctr_buffer.specs.History.{after, stack_of, deep_of, pointer_of, with_part, FitsPart, CanTake, CanTakeAll};
-ghost use Rattle.ctr_buffer.specs.Stack.{IsStack, empty};
+ghost use Rattle.ctr_buffer.specs.History.{IsHistory, after, stack_of, deep_of, pointer_of, with_part, FitsPart, CanTake, CanTakeAll};
+ghost use Rattle.ctr_buffer.specs.Stack.{Stack, IsStack, empty};
 ghost use Rattle.ctr_buffer.specs.declared.event.Event.{Event};
 ghost use Rattle.ctr_buffer.specs.declared.event.Event.TheVariants.{SetDepth};
 
@@ -77,6 +77,7 @@ pub fn replay<B: CtrStore>(depth: Depth, later: &[Event]) -> B
 
 /// Laws of histories, of every list of events: a proof and no work.
 pub fn history_laws()
+    ensures begins { (s : Stack) (history : List Event) → IsHistory history → fold after s history ≡ stack_of history }
     ensures newest { (history : List Event) (e : Event) → stack_of (history ++ e ∷ []) ≡ after (stack_of history) e }
     ensures depth_is_the_last { (history : List Event) → (stack_of history).depth ≡ deep_of history }
     ensures pointer_is_counted { (history : List Event) → (stack_of history).pointer ≡ pointer_of history }

@@ -1,6 +1,6 @@
 -- At most one row holds, and the function picks it.
-use Rattle.std.proofs.Common.{◌≡◌, ℕ, ◌%◌, Bool, true, false, cond, not, ◌&&◌, Option, Some, None, refl, sym, ◌∙◌, ap}
-use Rattle.ctr_rules.specs.Admitted.{view_of, holds, row_of, act_by, admitted, IsEven}
+use Rattle.std.proofs.Common.{◌≡◌, ◌≢◌, ℕ, ◌%◌, Bool, true, false, cond, not, ◌&&◌, Option, Some, None, refl, sym, ◌∙◌, ap}
+use Rattle.ctr_rules.specs.Admitted.{view_of, holds, NoRow, row_of, act_by, admitted, IsEven}
 use Rattle.ctr_rules.specs.FreezeBits.{freezes}
 use Rattle.ctr_rules.specs.RowTable.{Row, EmulatedCall, EmulatedReturn, EmulatedSwap, Within, TrapIn, ReturnOut, TrapOut, View, fits, act_of}
 use Rattle.ctr_rules.specs.declared.transfer.Act.{Act}
@@ -165,12 +165,17 @@ row_decides t m vs frozen r h =
     let v = view_of t m vs in
     decided_row frozen (freezes t m vs) (fits r v) (row_of v) r t h (fitting r v (third frozen (freezes t m vs) (fits r v) h))
 
-pub nothing_else : (frozen : Bool) (t : Transfer) (m vs : ℕ) → ((r : Row) → holds r t m vs frozen ≡ false) → freezes t m vs ≡ false → admitted t m vs frozen ≡ Nothing
-nothing_else true t m vs none calm = refl
-nothing_else false t m vs none calm =
+pub decided_nothing : (a b : Bool) (o : Option Row) (t : Transfer) → ((not a && not b) ≡ true → o ≡ None) → decided a b o t ≢ Freeze → decided a b o t ≡ Nothing
+decided_nothing true b o t none other = refl
+decided_nothing false true o t none other = absurd (other refl)
+decided_nothing false false o t none other = ap (λ (p : Option Row). act_by p t) (none refl)
+
+pub nothing_else : (frozen : Bool) (t : Transfer) (m vs : ℕ) → NoRow t m vs frozen → admitted t m vs frozen ≢ Freeze → admitted t m vs frozen ≡ Nothing
+nothing_else frozen t m vs none other =
     let v = view_of t m vs in
-    let fit_none : (r : Row) → fits r v ≡ false = λ r. rw calm at (none r) in
-    rw (calm, none_fits v fit_none) refl
+    decided_nothing frozen (freezes t m vs) (row_of v) t
+    (λ calm. none_fits v (λ row. rw calm at (none row)))
+    other
 
 -- only a freeze freezes
 pub rows_never_freeze : (o : Option Row) (t : Transfer) → act_by o t ≡ Freeze → ⊥

@@ -1,5 +1,5 @@
 -- What a transfer does to the records.
-use Rattle.std.specs.Prelude.{ℕ, ◌≡◌, ◌%◌, Bool, cond, not, ◌&&◌, Option, Some, None}
+use Rattle.std.specs.Prelude.{true, false, ℕ, ◌≡◌, ◌%◌, Bool, cond, not, ◌&&◌, Option, Some, None}
 use Rattle.ctr_csrs.specs.declared.control_bit.ControlBit.TheVariants.{Rasemu}
 use Rattle.ctr_csrs.specs.ControlFigure.{is_on}
 use Rattle.ctr_rules.specs.declared.transfer.Act.{Act}
@@ -24,6 +24,18 @@ view_of t m vs = record {
 -- whether a row holds: only where FROZEN is clear and the transfer doesn't set it
 abbrev pub holds : Row → Transfer → ℕ → ℕ → Bool → Bool
 holds row t m vs frozen = not frozen && not (freezes t m vs) && fits row (view_of t m vs)
+
+-- no row holds
+abbrev pub NoRow : Transfer → ℕ → ℕ → Bool → Type 0
+NoRow t m vs frozen = (row : Row) → holds row t m vs frozen ≡ false
+
+-- no two rows hold of one transfer
+abbrev pub OneRow : Type 0
+OneRow =
+    (row other : Row) (t : Transfer) (m vs : ℕ) (frozen : Bool)
+    → holds row t m vs frozen ≡ true
+    → holds other t m vs frozen ≡ true
+    → row ≡ other
 
 -- the row that fits, or None
 abbrev pub row_of : View → Option Row

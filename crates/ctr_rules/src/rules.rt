@@ -1,5 +1,5 @@
-ghost use Rattle.std.specs.Prelude.{◌≡◌, ◌↔◌, ◌%◌, true, false};
-ghost use Rattle.ctr_rules.specs.Admitted.{admitted, holds, act_by, row_of, view_of, IsEven};
+ghost use Rattle.std.specs.Prelude.{◌≡◌, ◌≢◌, ◌↔◌, ◌%◌, true, false};
+ghost use Rattle.ctr_rules.specs.Admitted.{admitted, holds, NoRow, OneRow, act_by, row_of, view_of, IsEven};
 ghost use Rattle.ctr_rules.specs.FreezeBits.{freezes};
 ghost use Rattle.ctr_rules.specs.RowTable.{Row, act_of, record_of, emulated_act};
 ghost use Rattle.ctr_rules.specs.declared.transfer.Transfer.{Transfer};
@@ -20,7 +20,7 @@ pub fn act(transfer: Transfer, m: Control, vs: Control, frozen: bool) -> Act
 
     // The rows of the table stand in no order: whichever holds, its act is the answer.
     ensures row { (r : Row) → holds r transfer m vs frozen ≡ true → result ≡ act_of r transfer }
-    ensures none { ((r : Row) → holds r transfer m vs frozen ≡ false) → freezes transfer m vs ≡ false → result ≡ Act.Nothing }
+    ensures none { NoRow transfer m vs frozen → result ≢ Act.Freeze → result ≡ Act.Nothing }
     ensures even { transfer.source % 2 ≡ 0 → transfer.target % 2 ≡ 0 → IsEven result }
 {
     if frozen {
@@ -92,5 +92,5 @@ fn record_of(transfer: Transfer, source: u64, target: u64) -> Record
 
 /// Laws of the table, of every transfer and all controls: a proof and no work.
 pub fn row_laws()
-    ensures one_row { (r s : Row) (t : Transfer) (m vs : ℕ) (frozen : Bool) → holds r t m vs frozen ≡ true → holds s t m vs frozen ≡ true → r ≡ s }
+    ensures one_row { OneRow }
 {}

@@ -1,6 +1,6 @@
 use Rattle.ctr_csrs.specs.declared.depth.Depth.TheVariants.{D16}
 use Rattle.ctr_buffer.specs.Stack.{empty}
-use Rattle.ctr_buffer.proofs.Histories.{depth_follows, pointer_follows, all_stay, empty_is}
+use Rattle.ctr_buffer.specs.HistoryLaws.{begins, depth_follows, pointer_follows, all_stay, empty_is}
 use Rattle.ctr_buffer.proofs.history.history_laws.Goals as goal
 
 pub returns-clause-depth_is_the_last : goal.returns-clause-depth_is_the_last
@@ -11,3 +11,6 @@ returns-clause-pointer_is_counted c = λ history. pointer_follows (empty D16) hi
 
 pub returns-clause-shape : goal.returns-clause-shape
 returns-clause-shape c = λ history. all_stay (empty D16) history (empty_is D16)
+
+pub returns-clause-begins : goal.returns-clause-begins
+returns-clause-begins c = begins

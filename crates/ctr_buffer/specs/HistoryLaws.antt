@@ -1,5 +1,5 @@
 -- What holds of the stack of a history.
-use Rattle.std.proofs.Common.{◌≡◌, ℕ, ◌+◌, ◌-◌, ◌*◌, ◌%◌, ◌<◌, ◌≤◌, inl, inr, true, false, cond, List, [], ◌∷◌, length, fold, count_by, refl, sym, ◌∙◌, ap, arith, add_assoc, lit≤, length-append}
+use Rattle.std.proofs.Common.{◌≡◌, ℕ, ◌+◌, ◌-◌, ◌*◌, ◌%◌, ◌<◌, inl, inr, true, false, cond, List, [], ◌∷◌, length, fold, count_by, refl, sym, ◌∙◌, ap, arith, add_assoc, length-append}
 use Rattle.std.proofs.Math.Nat.{mod-eq_of_lt, mod-add-mod, mul-add, mul-one}
 use Rattle.std.proofs.lemmas.Bool.{cases_Bool}
 use Rattle.std.proofs.lemmas.List.{length-replicate, length-set, length-take}
@@ -8,20 +8,24 @@ use Rattle.std.proofs.lemmas.List.Sums.{sum_by-cons}
 use Rattle.std.proofs.lemmas.Nat.{mod_below}
 use Rattle.std.specs.List.{list_any}
 use Rattle.ctr_csrs.specs.declared.depth.Depth.{Depth}
-use Rattle.ctr_csrs.specs.declared.depth.Depth.TheVariants.{D16, D32, D64, D128, D256}
 use Rattle.ctr_csrs.specs.Depths.{entries_of}
+use Rattle.ctr_csrs.specs.RegisterLaws.{least_entries}
 use Rattle.ctr_buffer.specs.declared.event.Event.{Event}
 use Rattle.ctr_buffer.specs.declared.event.Event.TheVariants.{Push, Swap, Pop, Clear, SetDepth, Turn, Poke}
 use Rattle.ctr_buffer.specs.Entry.{Entry, zero_entry, unlinked}
-use Rattle.ctr_buffer.specs.History.{after, with_part, deep_from, sets_pointer, place_set, set_from, since, is_push, is_pop, counted, pointer_from}
+use Rattle.ctr_buffer.specs.History.{IsHistory, after, stack_of, with_part, deep_from, sets_pointer, place_set, set_from, since, is_push, is_pop, counted, pointer_from}
 use Rattle.ctr_buffer.specs.Stack.{Stack, IsStack, size_of, empty, first_last, entry_at}
 
-pub some_entries : (d : Depth) → 16 ≤ entries_of d
-some_entries D16 = lit≤ tt
-some_entries D32 = lit≤ tt
-some_entries D64 = lit≤ tt
-some_entries D128 = lit≤ tt
-some_entries D256 = lit≤ tt
+-- a history begins with a depth, so what the buffer held before it is no matter
+pub begins : (s : Stack) (history : List Event) → IsHistory history → fold after s history ≡ stack_of history
+begins s [] is = absurd is
+begins s (Push e ∷ later) is = absurd is
+begins s (Swap e ∷ later) is = absurd is
+begins s (Pop ∷ later) is = absurd is
+begins s (Clear ∷ later) is = absurd is
+begins s (SetDepth d ∷ later) is = refl
+begins s (Turn w ∷ later) is = absurd is
+begins s (Poke i part value ∷ later) is = absurd is
 
 pub depth_follows : (s : Stack) (history : List Event) → (fold after s history).depth ≡ deep_from s.depth history
 depth_follows s [] = refl
@@ -38,12 +42,12 @@ length-first_last [] = refl
 length-first_last (e ∷ older) = length-append older (unlinked e ∷ []) ∙ omega arith
 
 pub below_size : (n : ℕ) (d : Depth) → n % entries_of d < entries_of d
-below_size n d = mod_below n (entries_of d) (omega (arith, some_entries d))
+below_size n d = mod_below n (entries_of d) (omega (arith, least_entries d))
 
 -- a stack stays one
 pub stays : (s : Stack) (e : Event) → IsStack s → IsStack (after s e)
 stays s (Push e) is = record {
-  full = omega (arith, length-take (size_of s - 1) s.slots, is.full, some_entries s.depth);
+  full = omega (arith, length-take (size_of s - 1) s.slots, is.full, least_entries s.depth);
   within = below_size (s.pointer + 1) s.depth;
 }
 stays s (Swap e) is = record { full = length-set s.slots 0 e ∙ is.full; within = is.within }
@@ -52,7 +56,7 @@ stays s Pop is = record {
   within = below_size (s.pointer + size_of s - 1) s.depth;
 }
 stays s Clear is = record { full = length-replicate (size_of s) zero_entry; within = is.within }
-stays s (SetDepth d) is = record { full = length-replicate (entries_of d) zero_entry; within = omega (arith, some_entries d) }
+stays s (SetDepth d) is = record { full = length-replicate (entries_of d) zero_entry; within = omega (arith, least_entries d) }
 stays s (Turn w) is = record {
   full = length-map-range_with_len _ 0 (size_of s);
   within = below_size w s.depth;
@@ -64,7 +68,7 @@ all_stay s [] is = is
 all_stay s (e ∷ later) is = all_stay (after s e) later (stays s e is)
 
 pub empty_is : (d : Depth) → IsStack (empty d)
-empty_is d = record { full = length-replicate (entries_of d) zero_entry; within = omega (arith, some_entries d) }
+empty_is d = record { full = length-replicate (entries_of d) zero_entry; within = omega (arith, least_entries d) }
 
 -- where no event sets the pointer
 pub none_since : (history : List Event) → list_any sets_pointer history ≡ false → since history ≡ history
@@ -144,7 +148,7 @@ count_step s Pop later =
     let product : (size - 1) * (1 + pops) ≡ (size - 1) * 1 + (size - 1) * pops = mul-add (size - 1) 1 pops in
     let one : (size - 1) * 1 ≡ size - 1 = mul-one (size - 1) in
     let sum : s.pointer + size - 1 + pushes + (size - 1) * pops ≡ s.pointer + pushes + (size - 1) * (1 + pops) =
-    omega (arith, product, one, some_entries s.depth) in
+    omega (arith, product, one, least_entries s.depth) in
     rw (sum_by-cons (λ x. cond (is_pop x) 1 0) Pop later) (mod_first size (s.pointer + size - 1) pushes ((size - 1) * pops) ∙ ap (λ (n : ℕ). n % size) sum)
 count_step s Clear later = refl
 count_step s (SetDepth d) later = refl
