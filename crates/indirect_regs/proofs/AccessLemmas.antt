@@ -45,8 +45,10 @@ virtual_by_gate gate answer number e never =
 pub illegal_by_select : (u : UnitState) (p : Priv) (gate answer : Result ℕ CsrFault) (number : ℕ) → gate ≡ Ok number
     → (answer ≡ Err Illegal) ↔ ((row_of number).reads u p ≡ None)
     → (answer ≡ Err Illegal) ↔ ((gate ≡ Err Illegal) ⊎ ReachesNoEntry u p gate)
-illegal_by_select u p gate answer number e iff =
-    (λ q. inr (subst (λ (r : Result ℕ CsrFault). ReachesNoEntry u p r) (sym e) (iff.0 q)),
-      λ h. elim h
-      [ inl q ↦ let wrong : Ok number ≡ Err Illegal = sym e ∙ q in absurd (cc)
-      | inr r ↦ iff.1 (subst (λ (r : Result ℕ CsrFault). ReachesNoEntry u p r) e r) ])
+illegal_by_select u p gate answer number e iff = (
+  λ q. inr (subst (λ (r : Result ℕ CsrFault). ReachesNoEntry u p r) (sym e) (iff.0 q)),
+  λ h. elim h [
+    | inl q ↦ let wrong : Ok number ≡ Err Illegal = sym e ∙ q in absurd (cc)
+    | inr r ↦ iff.1 (subst (λ (r : Result ℕ CsrFault). ReachesNoEntry u p r) e r)
+  ],
+)

@@ -1,8 +1,6 @@
 -- The proofs of the laws of accesses.
-use Rattle.std.proofs.Common.{ℕ, ◌≡◌, ◌≤◌, ◌<◌, ◌&&◌, nat_le, nat_lt, true, Option, Some, None, Result, Ok, Err, refl, ap, ◌∙◌, sym}
+use Rattle.std.proofs.Common.{ℕ, ◌≡◌, ◌≤◌, ◌<◌, nat_le, nat_lt, true, Option, Some, None, Result, Ok, Err, refl, ap}
 use Rattle.std.proofs.lemmas.Bool.{and_from, le-leb, lt-ltb, cond-true}
-use Rattle.ctr_csrs.specs.declared.mode.Mode.{Mode}
-use Rattle.ctr_csrs.specs.declared.mode.Mode.TheVariants as modes
 use Rattle.ctr_buffer.specs.declared.event.Part.{Part}
 use Rattle.ctr_buffer.specs.declared.event.Part.TheVariants as parts
 use Rattle.guest_modes.specs.declared.gating.CsrFault.{CsrFault}
@@ -13,10 +11,10 @@ use Rattle.indirect_regs.specs.declared.accessing.CsrUse.TheVariants.{Read, Writ
 use Rattle.indirect_regs.specs.declared.port.PortReg.{PortReg}
 use Rattle.indirect_regs.specs.declared.port.PortReg.TheVariants.{Mctrctl, Vsctrctl, Depth, Status, Select, From, To, Kind}
 use Rattle.indirect_regs.specs.Unit.{UnitState, after_any}
-use Rattle.indirect_regs.specs.Ports.{names_entry, entry_named, part_of, read, written, event_of}
+use Rattle.indirect_regs.specs.Ports.{names_entry, entry_named, part_of, read}
 use Rattle.indirect_regs.specs.Table.{Row, row_of, part_read}
 use Rattle.indirect_regs.specs.Access.{Accessed, new_value, put_in, used, passed, is_write}
-use Rattle.indirect_regs.specs.Laws.{IsAccessInM, MonitorReachesAsM, EventsMakeTheBuffer}
+use Rattle.indirect_regs.specs.Laws.{MonitorReachesAsM, EventsMakeTheBuffer}
 
 -- a select in the range names an entry
 pub names : (select : ℕ) → (0x200 ≤ select) × (select < 0x300) → names_entry select ≡ true

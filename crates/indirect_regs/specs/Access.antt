@@ -3,7 +3,7 @@
 use Rattle.std.specs.Prelude.{◌≡◌, ℕ, ◌-◌, ◌^◌, Bool, true, false, Option, Some, None, Result, Ok, Err, bit_and, bit_or}
 use Rattle.ctr_csrs.specs.declared.mode.Mode.{Mode}
 use Rattle.guest_modes.specs.declared.gating.CsrFault.{CsrFault}
-use Rattle.guest_modes.specs.declared.gating.CsrFault.TheVariants.{Illegal, Virtual}
+use Rattle.guest_modes.specs.declared.gating.CsrFault.TheVariants.{Illegal}
 use Rattle.guest_modes.specs.declared.registers.Priv.{Priv}
 use Rattle.guest_modes.specs.Gate.{gated}
 use Rattle.ctr_buffer.specs.declared.event.Event.{Event}

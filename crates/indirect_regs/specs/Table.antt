@@ -1,6 +1,6 @@
 -- The registers that a hart's software reads and writes by number, those of control transfer records among them (RISC-V
 -- Control Transfer Records 1.0; Privileged Architecture, "Indirect CSR Access").
-use Rattle.std.specs.Prelude.{ℕ, ◌%◌, Bool, cond, nat_eq, Option, Some, None, List, [], ◌∷◌, bit_and}
+use Rattle.std.specs.Prelude.{ℕ, ◌%◌, cond, nat_eq, Option, Some, None, List, [], ◌∷◌, bit_and}
 use Rattle.ctr_bits.specs.Mask.{merged}
 use Rattle.ctr_csrs.specs.ControlFigure.{s_mask}
 use Rattle.guest_modes.specs.declared.registers.Priv.{Priv}

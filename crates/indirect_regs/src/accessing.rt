@@ -26,7 +26,13 @@ pub enum CsrUse {
 }
 
 /// One access of an instruction to a register, by its number. Answers the old value.
-pub fn access<B: CtrStore>(unit: &mut CtrUnit<B>, p: &mut Priv, mode: Mode, csr: u16, op: CsrUse) -> Result<u64, CsrFault>
+pub fn access<B: CtrStore>(
+    unit: &mut CtrUnit<B>,
+    p: &mut Priv,
+    mode: Mode,
+    csr: u16,
+    op: CsrUse,
+) -> Result<u64, CsrFault>
     ensures answer { result ≡ (accessed unit.old p.old mode csr op).answer }
     ensures unit { unit.new ≡ (accessed unit.old p.old mode csr op).unit }
     ensures registers { p.new ≡ (accessed unit.old p.old mode csr op).registers }
@@ -34,10 +40,8 @@ pub fn access<B: CtrStore>(unit: &mut CtrUnit<B>, p: &mut Priv, mode: Mode, csr:
     ensures is_virtual { (result ≡ Err CsrFault.Virtual) ↔ (gated mode csr (is_write op) ≡ Err CsrFault.Virtual) }
 
     // The gate refuses the access, or it reaches a register of an entry whose select names none.
-    ensures is_illegal {
-        (result ≡ Err CsrFault.Illegal)
-        ↔ ((gated mode csr (is_write op) ≡ Err CsrFault.Illegal) ⊎ ReachesNoEntry unit.old p.old (gated mode csr (is_write op)))
-    }
+    ensures is_illegal { (result ≡ Err CsrFault.Illegal)
+        ↔ ((gated mode csr (is_write op) ≡ Err CsrFault.Illegal) ⊎ ReachesNoEntry unit.old p.old (gated mode csr (is_write op))) }
 {
     match gate(mode, csr, writes(op)) {
         Ok(number) => use_register(unit, p, number, op),
@@ -46,7 +50,12 @@ pub fn access<B: CtrStore>(unit: &mut CtrUnit<B>, p: &mut Priv, mode: Mode, csr:
 }
 
 // Uses the register that an access reaches.
-fn use_register<B: CtrStore>(unit: &mut CtrUnit<B>, p: &mut Priv, number: u16, op: CsrUse) -> Result<u64, CsrFault>
+fn use_register<B: CtrStore>(
+    unit: &mut CtrUnit<B>,
+    p: &mut Priv,
+    number: u16,
+    op: CsrUse,
+) -> Result<u64, CsrFault>
     ensures answer { result ≡ (passed unit.old p.old op (Ok number)).answer }
     ensures unit { unit.new ≡ (passed unit.old p.old op (Ok number)).unit }
     ensures registers { p.new ≡ (passed unit.old p.old op (Ok number)).registers }

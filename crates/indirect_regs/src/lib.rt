@@ -10,9 +10,9 @@ pub use port::{CtrPort, PortReg};
 pub use unit::CtrUnit;
 
 mod accessing;
-mod port;
 mod laws;
 mod numbered;
-mod unit;
+mod port;
 #[cfg(test)]
 mod tests;
+mod unit;

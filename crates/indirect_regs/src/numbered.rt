@@ -41,7 +41,12 @@ pub(crate) fn read_register<B: CtrStore>(unit: &CtrUnit<B>, p: &Priv, number: u1
 }
 
 // Writes a register.
-pub(crate) fn write_register<B: CtrStore>(unit: &mut CtrUnit<B>, p: &mut Priv, number: u16, value: u64)
+pub(crate) fn write_register<B: CtrStore>(
+    unit: &mut CtrUnit<B>,
+    p: &mut Priv,
+    number: u16,
+    value: u64,
+)
     ensures unit { unit.new ≡ record ((row_of number).unit unit.old value) { stack = after_any unit.old.stack ((row_of number).event unit.old p.old value) } }
     ensures registers { p.new ≡ (row_of number).registers p.old value }
 {

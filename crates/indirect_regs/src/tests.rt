@@ -1,11 +1,9 @@
-ghost use Rattle.std.specs.Prelude.{◌≡◌, ◌<◌};
-ghost use Rattle.indirect_regs.specs.Ports.{Selects};
+ghost use Rattle.std.specs.Prelude.{◌≡◌, ◌+◌, ◌<◌};
 
 use crate::{CsrUse, CtrPort, CtrUnit, PortReg, access};
 use ctr_buffer::{Event, ListStore, Slot};
 use ctr_csrs::{Depth, Mode};
 use guest_modes::{CsrFault, Priv};
-use std::marker::Model;
 
 const ONES: u64 = 0xFFFF_FFFF_FFFF_FFFF;
 
@@ -39,13 +37,37 @@ fn registers_of_the_records_keep_the_bits_of_their_table(rt: HostRuntime) {
     ] {
         let mut unit = unit();
         let mut p = Priv::fresh();
-        assert_eq!(rt; access(&mut unit, &mut p, Mode::M, 0x150, CsrUse::Write(0x200)), Ok(0), "siselect");
-        assert_eq!(rt; access(&mut unit, &mut p, Mode::M, 0x250, CsrUse::Write(0x200)), Ok(0), "vsiselect");
-        assert_eq!(rt; access(&mut unit, &mut p, Mode::M, csr, CsrUse::Read), Ok(fresh), "register {csr}, fresh");
-        assert_eq!(rt; access(&mut unit, &mut p, Mode::M, csr, CsrUse::Write(ONES)), Ok(fresh), "register {csr}");
-        assert_eq!(rt; access(&mut unit, &mut p, Mode::M, csr, CsrUse::Write(0)), Ok(ones), "register {csr} after ones");
+        assert_eq!(rt;
+            access(&mut unit, &mut p, Mode::M, 0x150, CsrUse::Write(0x200)),
+            Ok(0),
+            "siselect"
+        );
+        assert_eq!(rt;
+            access(&mut unit, &mut p, Mode::M, 0x250, CsrUse::Write(0x200)),
+            Ok(0),
+            "vsiselect"
+        );
+        assert_eq!(rt;
+            access(&mut unit, &mut p, Mode::M, csr, CsrUse::Read),
+            Ok(fresh),
+            "register {csr}, fresh"
+        );
+        assert_eq!(rt;
+            access(&mut unit, &mut p, Mode::M, csr, CsrUse::Write(ONES)),
+            Ok(fresh),
+            "register {csr}"
+        );
+        assert_eq!(rt;
+            access(&mut unit, &mut p, Mode::M, csr, CsrUse::Write(0)),
+            Ok(ones),
+            "register {csr} after ones"
+        );
         if csr != 0x150 && csr != 0x250 {
-            assert_eq!(rt; access(&mut unit, &mut p, Mode::M, csr, CsrUse::Read), Ok(0), "register {csr} after zero");
+            assert_eq!(rt;
+                access(&mut unit, &mut p, Mode::M, csr, CsrUse::Read),
+                Ok(0),
+                "register {csr} after zero"
+            );
         }
     }
 }
@@ -65,16 +87,42 @@ fn selects_name_entries_from_0x200_on(rt: HostRuntime) {
         for (select_register, register) in [(0x150, 0x151), (0x250, 0x251)] {
             let mut unit = unit();
             let mut p = Priv::fresh();
-            assert_eq!(rt; access(&mut unit, &mut p, Mode::S, select_register, CsrUse::Write(select)), Ok(0), "select {select}");
-            assert_eq!(rt; access(&mut unit, &mut p, Mode::S, register, CsrUse::Write(0x11)), answer, "select {select}");
-            assert_eq!(rt; access(&mut unit, &mut p, Mode::S, register, CsrUse::Read), kept, "select {select}");
+            assert_eq!(rt;
+                access(
+                    &mut unit,
+                    &mut p,
+                    Mode::S,
+                    select_register,
+                    CsrUse::Write(select)
+                ),
+                Ok(0),
+                "select {select}"
+            );
+            assert_eq!(rt;
+                access(&mut unit, &mut p, Mode::S, register, CsrUse::Write(0x11)),
+                answer,
+                "select {select}"
+            );
+            assert_eq!(rt;
+                access(&mut unit, &mut p, Mode::S, register, CsrUse::Read),
+                kept,
+                "select {select}"
+            );
         }
     }
     let mut unit = unit();
     let mut p = Priv::fresh();
-    assert_eq!(rt; access(&mut unit, &mut p, Mode::M, 0x151, CsrUse::Read), Err(CsrFault::Illegal), "the select is 0");
+    assert_eq!(rt;
+        access(&mut unit, &mut p, Mode::M, 0x151, CsrUse::Read),
+        Err(CsrFault::Illegal),
+        "the select is 0"
+    );
     for unused in [0x155, 0x156, 0x157, 0x255, 0x256, 0x257] {
-        assert_eq!(rt; access(&mut unit, &mut p, Mode::M, unused, CsrUse::Read), Err(CsrFault::Illegal), "{unused}, the select is 0");
+        assert_eq!(rt;
+            access(&mut unit, &mut p, Mode::M, unused, CsrUse::Read),
+            Err(CsrFault::Illegal),
+            "{unused}, the select is 0"
+        );
     }
 }
 
@@ -92,18 +140,48 @@ fn another_depth_empties_and_moves_the_pointer(rt: HostRuntime) {
         (2, 2),
         (3, 3),
     ] {
-        assert!(rt; access(&mut unit, &mut p, Mode::M, 0x15F, CsrUse::Write(written)).is_ok(), "depth {written}");
-        assert_eq!(rt; access(&mut unit, &mut p, Mode::M, 0x15F, CsrUse::Read), Ok(code), "depth {written}");
+        assert!(rt;
+            access(&mut unit, &mut p, Mode::M, 0x15F, CsrUse::Write(written)).is_ok(),
+            "depth {written}"
+        );
+        assert_eq!(rt;
+            access(&mut unit, &mut p, Mode::M, 0x15F, CsrUse::Read),
+            Ok(code),
+            "depth {written}"
+        );
     }
     // sctrdepth; then WRPTR and the entry that siselect names, which were 5 and 0x11.
     for (written, wrptr, entry) in [(3, 5, 0x11), (5, 5, 0x11), (0, 0, 0)] {
-        assert!(rt; access(&mut unit, &mut p, Mode::M, 0x15F, CsrUse::Write(3)).is_ok(), "depth 128");
-        assert!(rt; access(&mut unit, &mut p, Mode::M, 0x14F, CsrUse::Write(5)).is_ok(), "WRPTR 5");
-        assert!(rt; access(&mut unit, &mut p, Mode::M, 0x150, CsrUse::Write(0x207)).is_ok(), "entry 7");
-        assert!(rt; access(&mut unit, &mut p, Mode::M, 0x151, CsrUse::Write(0x11)).is_ok(), "source 0x11");
-        assert!(rt; access(&mut unit, &mut p, Mode::M, 0x15F, CsrUse::Write(written)).is_ok(), "depth {written}");
-        assert_eq!(rt; access(&mut unit, &mut p, Mode::M, 0x14F, CsrUse::Read), Ok(wrptr), "depth {written}");
-        assert_eq!(rt; access(&mut unit, &mut p, Mode::M, 0x151, CsrUse::Read), Ok(entry), "depth {written}");
+        assert!(rt;
+            access(&mut unit, &mut p, Mode::M, 0x15F, CsrUse::Write(3)).is_ok(),
+            "depth 128"
+        );
+        assert!(rt;
+            access(&mut unit, &mut p, Mode::M, 0x14F, CsrUse::Write(5)).is_ok(),
+            "WRPTR 5"
+        );
+        assert!(rt;
+            access(&mut unit, &mut p, Mode::M, 0x150, CsrUse::Write(0x207)).is_ok(),
+            "entry 7"
+        );
+        assert!(rt;
+            access(&mut unit, &mut p, Mode::M, 0x151, CsrUse::Write(0x11)).is_ok(),
+            "source 0x11"
+        );
+        assert!(rt;
+            access(&mut unit, &mut p, Mode::M, 0x15F, CsrUse::Write(written)).is_ok(),
+            "depth {written}"
+        );
+        assert_eq!(rt;
+            access(&mut unit, &mut p, Mode::M, 0x14F, CsrUse::Read),
+            Ok(wrptr),
+            "depth {written}"
+        );
+        assert_eq!(rt;
+            access(&mut unit, &mut p, Mode::M, 0x151, CsrUse::Read),
+            Ok(entry),
+            "depth {written}"
+        );
     }
 }
 
@@ -111,14 +189,47 @@ fn another_depth_empties_and_moves_the_pointer(rt: HostRuntime) {
 fn the_write_pointer_turns_the_entries(rt: HostRuntime) {
     let mut unit = unit();
     let mut p = Priv::fresh();
-    unit.perform(Event::Push(Slot { source: 0x101, target: 0x200, kind: 9 }));
-    assert_eq!(rt; access(&mut unit, &mut p, Mode::S, 0x14F, CsrUse::Write(0x8000_0002)), Ok(1), "one push");
-    assert_eq!(rt; access(&mut unit, &mut p, Mode::S, 0x14F, CsrUse::Read), Ok(0x8000_0002), "FROZEN is kept too");
+    unit.perform(Event::Push(Slot {
+        source: 0x101,
+        target: 0x200,
+        kind: 9,
+    }));
+    assert_eq!(rt;
+        access(
+            &mut unit,
+            &mut p,
+            Mode::S,
+            0x14F,
+            CsrUse::Write(0x8000_0002)
+        ),
+        Ok(1),
+        "one push"
+    );
+    assert_eq!(rt;
+        access(&mut unit, &mut p, Mode::S, 0x14F, CsrUse::Read),
+        Ok(0x8000_0002),
+        "FROZEN is kept too"
+    );
     for (select, source, target, kind) in [(0x200, 0, 0, 0), (0x201, 0x101, 0x200, 9)] {
-        assert!(rt; access(&mut unit, &mut p, Mode::S, 0x150, CsrUse::Write(select)).is_ok(), "select {select}");
-        assert_eq!(rt; access(&mut unit, &mut p, Mode::S, 0x151, CsrUse::Read), Ok(source), "source of {select}");
-        assert_eq!(rt; access(&mut unit, &mut p, Mode::S, 0x152, CsrUse::Read), Ok(target), "target of {select}");
-        assert_eq!(rt; access(&mut unit, &mut p, Mode::S, 0x153, CsrUse::Read), Ok(kind), "type of {select}");
+        assert!(rt;
+            access(&mut unit, &mut p, Mode::S, 0x150, CsrUse::Write(select)).is_ok(),
+            "select {select}"
+        );
+        assert_eq!(rt;
+            access(&mut unit, &mut p, Mode::S, 0x151, CsrUse::Read),
+            Ok(source),
+            "source of {select}"
+        );
+        assert_eq!(rt;
+            access(&mut unit, &mut p, Mode::S, 0x152, CsrUse::Read),
+            Ok(target),
+            "target of {select}"
+        );
+        assert_eq!(rt;
+            access(&mut unit, &mut p, Mode::S, 0x153, CsrUse::Read),
+            Ok(kind),
+            "type of {select}"
+        );
     }
 }
 
@@ -134,8 +245,16 @@ fn a_guest_reaches_registers_of_its_own(rt: HostRuntime) {
         (0x153, 0x253, 0xD),
         (0x14F, 0x14F, 0x3), // sctrstatus is one
     ] {
-        assert_eq!(rt; access(&mut unit, &mut p, Mode::Vs, csr, CsrUse::Write(value)), Ok(0), "register {csr}");
-        assert_eq!(rt; access(&mut unit, &mut p, Mode::S, guest, CsrUse::Read), Ok(value), "register {guest}");
+        assert_eq!(rt;
+            access(&mut unit, &mut p, Mode::Vs, csr, CsrUse::Write(value)),
+            Ok(0),
+            "register {csr}"
+        );
+        assert_eq!(rt;
+            access(&mut unit, &mut p, Mode::S, guest, CsrUse::Read),
+            Ok(value),
+            "register {guest}"
+        );
     }
     for (mode, csr, fault) in [
         (Mode::Vs, 0x15F, CsrFault::Virtual),
@@ -144,9 +263,17 @@ fn a_guest_reaches_registers_of_its_own(rt: HostRuntime) {
         (Mode::U, 0x14F, CsrFault::Illegal),
         (Mode::S, 0x34E, CsrFault::Illegal),
     ] {
-        assert_eq!(rt; access(&mut unit, &mut p, mode, csr, CsrUse::Write(0)), Err(fault), "{mode:?}, register {csr}");
+        assert_eq!(rt;
+            access(&mut unit, &mut p, mode, csr, CsrUse::Write(0)),
+            Err(fault),
+            "{mode:?}, register {csr}"
+        );
     }
-    assert_eq!(rt; access(&mut unit, &mut p, Mode::S, 0x150, CsrUse::Read), Ok(0), "siselect stays");
+    assert_eq!(rt;
+        access(&mut unit, &mut p, Mode::S, 0x150, CsrUse::Read),
+        Ok(0),
+        "siselect stays"
+    );
 }
 
 #[test]
@@ -165,7 +292,11 @@ fn set_and_clear_write_over_the_old_value(rt: HostRuntime) {
         (0xF14, CsrUse::Set(0), Err(CsrFault::Illegal)), // a write even where it sets nothing
         (0xF14, CsrUse::Clear(0), Err(CsrFault::Illegal)),
     ] {
-        assert_eq!(rt; access(&mut unit, &mut p, Mode::M, csr, op), answer, "register {csr}, {op:?}");
+        assert_eq!(rt;
+            access(&mut unit, &mut p, Mode::M, csr, op),
+            answer,
+            "register {csr}, {op:?}"
+        );
     }
 }
 
@@ -220,7 +351,11 @@ fn a_monitor_reaches_the_unit_with_the_rights_of_m(rt: HostRuntime) {
     port.set(PortReg::Depth, 1);
     assert_eq!(rt; port.get(PortReg::Depth), 1, "depth 32");
     port.set(PortReg::Status, 0x8000_0021);
-    assert_eq!(rt; port.get(PortReg::Status), 0x8000_0001, "WRPTR 33 modulo 32, FROZEN");
+    assert_eq!(rt;
+        port.get(PortReg::Status),
+        0x8000_0001,
+        "WRPTR 33 modulo 32, FROZEN"
+    );
     port.set(PortReg::Select, 0x201);
     assert_eq!(rt; port.get(PortReg::Select), 0x201, "entry 1");
     assert_eq!(rt; port.accesses(), 10, "five writes and five reads");
@@ -231,6 +366,7 @@ fn a_monitor_reaches_the_unit_with_the_rights_of_m(rt: HostRuntime) {
 // Writes and reads the parts of entry 1.
 fn entry_parts(port: &mut Monitor) -> (u64, u64, u64)
     requires { port.old.count < 1000 }
+    ensures { port.new.count ≡ port.old.count + 7 }
 {
     port.set(PortReg::Select, 0x201);
     port.set(PortReg::From, 0x31);
@@ -247,7 +383,11 @@ fn a_monitor_reaches_the_entry_that_it_selects(rt: HostRuntime) {
         unit: unit(),
         count: 0,
     };
-    assert_eq!(rt; entry_parts(&mut port), (0x31, 0x32, 0xB), "the target is even, the type has four bits");
+    assert_eq!(rt;
+        entry_parts(&mut port),
+        (0x31, 0x32, 0xB),
+        "the target is even, the type has four bits"
+    );
     port.clear();
     assert_eq!(rt; entry_parts(&mut port), (0x31, 0x32, 0xB), "after a clear");
 }

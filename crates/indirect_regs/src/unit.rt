@@ -7,7 +7,10 @@ ghost use Rattle.indirect_regs.specs.Ports.{entry_named, part_of, part_kept, rea
 
 use crate::port::PortReg;
 use ctr_buffer::{CtrStore, Event, Part, Slot, perform};
-use ctr_csrs::{Control, Depth, Status, depth_code, depth_of, entries, legal_m, legal_vs, status_of, status_word};
+use ctr_csrs::{
+    Control, Depth, Status, depth_code, depth_of, entries, legal_m, legal_vs, status_of,
+    status_word,
+};
 use std::marker::Model;
 
 /// The control transfer unit of a hart (RISC-V Control Transfer Records 1.0).

@@ -1,4 +1,4 @@
-use Rattle.std.proofs.Common.{Bool, ◌≡◌, sym, ◌∙◌, ap}
+use Rattle.std.proofs.Common.{Bool, sym, ◌∙◌, ap}
 use Rattle.guest_modes.specs.Gate.{gated}
 use Rattle.indirect_regs.specs.Access.{is_write}
 use Rattle.indirect_regs.specs.Table.{row_of}
