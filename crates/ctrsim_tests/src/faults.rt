@@ -1,57 +1,88 @@
 // What comes in the place of a sample.
-use crate::input::{call, schedule};
+use crate::input::{Ended, call, run, schedule};
 use ctr_port::{MemSink, MemSource, NoMemory};
-use ctrsim_cli::{Fault, Outcome, ctrsim};
+use ctrsim_cli::{Fault, Outcome};
+use std::process::Abort;
 
 const CALL: &[u8] = b"\xEF\x00\x80\x00";
 
-const ROW: &[u8] =
+const ONE_CALL: &[u8] =
     b"ctr-schedule 1\nharts 1\nlayout 803\ntask 4 8 0 4 0 0\nimages\n\xEF\x00\x80\x00run 0 0 1\nsample 0\nend\n";
 
-// The words IMAGE and MEM, the image, the word STEPS, the step that isn't built, and what is said of it.
-const NOT_BUILT: [(&[u8], &[u8], &[u8], u64, &[u8]); 6] = [
-    (
-        b"4 4",
-        b"\x73\x00\x00\x00",
-        b"1",
-        0,
-        b"ctrsim: step 0 isn't built\n",
-    ), // ECALL
-    (
-        b"4 4",
-        b"\xFF\xFF\xFF\xFF",
-        b"1",
-        0,
-        b"ctrsim: step 0 isn't built\n",
-    ), // no instruction
-    (
-        b"4 4",
-        b"\x93\x82\x12\x00",
-        b"11",
-        1,
-        b"ctrsim: step 1 isn't built\n",
-    ), // past the end of memory
-    (
-        b"4 4",
-        b"\x6F\x00\x20\x00",
-        b"1",
-        0,
-        b"ctrsim: step 0 isn't built\n",
-    ), // jal x0, 2
-    (
-        b"4 4",
-        b"\x67\x00\x00\x00",
-        b"2",
-        1,
-        b"ctrsim: step 1 isn't built\n",
-    ), // jalr x0, 0(x0), then at 0
-    (
-        b"8 8",
-        b"\x13\x00\x00\x00\x13\x10\x10\x00",
-        b"5",
-        1,
-        b"ctrsim: step 1 isn't built\n",
-    ), // addi, then slli
+const OTHER_WORDS: [&[&str]; 6] = [
+    &[],
+    &["run", "x"],
+    &["Run"],
+    &["show", "803"],
+    &["demo", "1"],
+    &["--help"],
+];
+
+// A schedule with a step that isn't built.
+#[derive(Clone, Copy)]
+struct Stop {
+    name: &'static str,
+    // the words IMAGE and MEM
+    sizes: &'static [u8],
+    image: &'static [u8],
+    steps: &'static [u8],
+    number: u64,
+    said: &'static [u8],
+}
+
+const STOPS: [Stop; 6] = [
+    Stop {
+        name: "ECALL",
+        sizes: b"4 4",
+        image: b"\x73\x00\x00\x00",
+        steps: b"1",
+        number: 0,
+        said: b"ctrsim: step 0 isn't built\n",
+    },
+    Stop {
+        name: "no instruction",
+        sizes: b"4 4",
+        image: b"\xFF\xFF\xFF\xFF",
+        steps: b"1",
+        number: 0,
+        said: b"ctrsim: step 0 isn't built\n",
+    },
+    // addi x5, x5, 1, and then the end of memory
+    Stop {
+        name: "past memory",
+        sizes: b"4 4",
+        image: b"\x93\x82\x12\x00",
+        steps: b"11",
+        number: 1,
+        said: b"ctrsim: step 1 isn't built\n",
+    },
+    // jal x0, 2
+    Stop {
+        name: "a target between words",
+        sizes: b"4 4",
+        image: b"\x6F\x00\x20\x00",
+        steps: b"1",
+        number: 0,
+        said: b"ctrsim: step 0 isn't built\n",
+    },
+    // jalr x0, 0(x0), which is built, and then address 0
+    Stop {
+        name: "below memory",
+        sizes: b"4 4",
+        image: b"\x67\x00\x00\x00",
+        steps: b"2",
+        number: 1,
+        said: b"ctrsim: step 1 isn't built\n",
+    },
+    // eleven ADDI, and then slli x0, x0, 1
+    Stop {
+        name: "a number of two digits",
+        sizes: b"48 48",
+        image: b"\x13\0\0\0\x13\0\0\0\x13\0\0\0\x13\0\0\0\x13\0\0\0\x13\0\0\0\x13\0\0\0\x13\0\0\0\x13\0\0\0\x13\0\0\0\x13\0\0\0\x13\x10\x10\0",
+        steps: b"100",
+        number: 11,
+        said: b"ctrsim: step 11 isn't built\n",
+    },
 ];
 
 const OTHER_FORMS: [&[u8]; 14] = [
@@ -71,27 +102,28 @@ const OTHER_FORMS: [&[u8]; 14] = [
     b"ctr-schedule 1\nharts 1\nlayout 803\ntask 4 8 0 4 0 0\nimages\n\xEF\x00",
 ];
 
+// The call ended with this fault and said this, and wrote so many bytes.
+fn stops(rt: &impl Abort, name: &str, ended: &Ended, want: Outcome, said: &[u8], written: usize) {
+    assert_eq!(rt; ended.outcome, want, "{name}");
+    assert_eq!(rt; ended.notes.bytes(), said, "{name}");
+    assert_eq!(rt; ended.sink.bytes().len(), written, "{name}");
+}
+
 #[test]
 fn other_words_are_usage_and_touch_nothing(rt: HostRuntime) -> Result<(), NoMemory> {
     let usage = Outcome {
         status: 2,
         fault: Some(Fault::Usage),
     };
-    let cases: [&[&str]; 6] = [
-        &[],
-        &["run", "x"],
-        &["Run"],
-        &["show", "803"],
-        &["demo", "1"],
-        &["--help"],
-    ];
-    for words in cases {
-        let ended = call(rt.alloc(), words, ROW, &[], 4096)?;
-        assert_eq!(rt; ended.outcome, usage, "{words:?}");
-        assert_eq!(rt; ended.sink.bytes().len(), 0, "{words:?}");
-        assert_eq!(rt;
-            ended.notes.bytes(),
-            b"ctrsim: usage: ctrsim run | show HEX | demo N\n".as_slice()
+    for words in OTHER_WORDS {
+        let ended = run(rt.alloc(), words, ONE_CALL, &[])?;
+        stops(
+            &rt,
+            "other words",
+            &ended,
+            usage,
+            b"ctrsim: usage: ctrsim run | show HEX | demo N\n",
+            0,
         );
     }
     Ok(())
@@ -99,84 +131,108 @@ fn other_words_are_usage_and_touch_nothing(rt: HostRuntime) -> Result<(), NoMemo
 
 #[test]
 fn a_step_that_is_not_built_is_named(rt: HostRuntime) -> Result<(), NoMemory> {
-    for (sizes, image, steps, number, said) in NOT_BUILT {
-        let text = schedule(rt.alloc(), sizes, image, steps)?;
-        let ended = call(rt.alloc(), &["run"], text.as_slice(), &[], 4096)?;
+    for case in STOPS {
+        let text = schedule(rt.alloc(), case.sizes, case.image, case.steps)?;
+        let ended = run(rt.alloc(), &["run"], text.as_slice(), &[])?;
         let want = Outcome {
             status: 8,
-            fault: Some(Fault::NotBuilt(number)),
+            fault: Some(Fault::NotBuilt(case.number)),
         };
-        assert_eq!(rt; ended.outcome, want, "{image:?}");
-        assert_eq!(rt; ended.sink.bytes().len(), 0, "{image:?}");
-        assert_eq!(rt; ended.notes.bytes(), said, "{image:?}");
+        stops(&rt, case.name, &ended, want, case.said, 0);
     }
     Ok(())
 }
 
+const OTHER_FORM: Outcome = Outcome {
+    status: 9,
+    fault: Some(Fault::OtherForm),
+};
+
 #[test]
 fn text_of_another_form_is_refused(rt: HostRuntime) -> Result<(), NoMemory> {
-    let want = Outcome {
-        status: 9,
-        fault: Some(Fault::OtherForm),
-    };
     for text in OTHER_FORMS {
-        let ended = call(rt.alloc(), &["run"], text, &[], 4096)?;
-        assert_eq!(rt; ended.outcome, want, "{text:?}");
-        assert_eq!(rt; ended.sink.bytes().len(), 0);
-        assert_eq!(rt; ended.notes.bytes(), b"ctrsim: other form\n".as_slice());
+        let ended = run(rt.alloc(), &["run"], text, &[])?;
+        stops(
+            &rt,
+            "another form",
+            &ended,
+            OTHER_FORM,
+            b"ctrsim: other form\n",
+            0,
+        );
     }
     Ok(())
 }
 
 #[test]
 fn a_full_memory_fits_and_a_longer_input_is_refused(rt: HostRuntime) -> Result<(), NoMemory> {
-    // an image as long as the greatest memory, and then more bytes than any schedule of the form has
     let mut image = Vec::from_slice(rt.alloc(), CALL)?;
     image.resize(4096, 0)?;
-    let text = schedule(rt.alloc(), b"4096 4096", image.as_slice(), b"1")?;
-    let ended = call(rt.alloc(), &["run"], text.as_slice(), &[1000], 4096)?;
+    let mut text = schedule(rt.alloc(), b"4096 4096", image.as_slice(), b"1")?;
+    let ended = run(rt.alloc(), &["run"], text.as_slice(), &[1000])?;
     assert_eq!(rt; ended.outcome.status, 0);
-    let mut long = Vec::from_slice(rt.alloc(), text.as_slice())?;
-    long.resize(9000, 0)?;
-    let ended = call(rt.alloc(), &["run"], long.as_slice(), &[], 4096)?;
-    assert_eq!(rt; ended.outcome.status, 9);
+    text.resize(9000, 0)?;
+    let ended = run(rt.alloc(), &["run"], text.as_slice(), &[])?;
+    stops(
+        &rt,
+        "9,000 bytes",
+        &ended,
+        OTHER_FORM,
+        b"ctrsim: other form\n",
+        0,
+    );
     Ok(())
 }
 
 #[test]
-fn failures_in_mid_stream_are_reported(rt: HostRuntime) -> Result<(), NoMemory> {
-    let words = [String::from_str(rt.alloc(), "run")?];
-
-    // the third read fails
-    let mut source = MemSource::new(rt.alloc(), ROW, &[10], &[2])?;
-    let mut sink = MemSink::new(rt.alloc(), 4096, &[], &[])?;
-    let mut notes = MemSink::new(rt.alloc(), 128, &[], &[])?;
-    let outcome = ctrsim(rt.alloc(), &words, &mut source, &mut sink, &mut notes);
-    assert_eq!(rt; outcome.status, 3);
-    assert_eq!(rt; outcome.fault, Some(Fault::ReadFault));
-    assert_eq!(rt; sink.bytes().len(), 0);
-    assert_eq!(rt; notes.bytes(), b"ctrsim: cannot read\n".as_slice());
-
-    // the fourth write fails, after three of ten bytes
-    let mut source = MemSource::new(rt.alloc(), ROW, &[], &[])?;
-    let mut sink = MemSink::new(rt.alloc(), 4096, &[10], &[3])?;
-    let mut notes = MemSink::new(rt.alloc(), 128, &[5], &[])?;
-    let outcome = ctrsim(rt.alloc(), &words, &mut source, &mut sink, &mut notes);
-    assert_eq!(rt; outcome.status, 4);
-    assert_eq!(rt; outcome.fault, Some(Fault::WriteFault));
-    assert_eq!(rt;
-        sink.bytes().len(),
-        30,
-        "a proper prefix of the 56 bytes was written"
+fn a_read_that_fails_is_told(rt: HostRuntime) -> Result<(), NoMemory> {
+    let mut source = MemSource::new(rt.alloc(), ONE_CALL, &[10], &[2])?;
+    let sink = MemSink::new(rt.alloc(), 4096, &[], &[])?;
+    let notes = MemSink::new(rt.alloc(), 128, &[], &[])?;
+    let ended = call(rt.alloc(), &["run"], &mut source, sink, notes)?;
+    let want = Outcome {
+        status: 3,
+        fault: Some(Fault::ReadFault),
+    };
+    stops(
+        &rt,
+        "the third read",
+        &ended,
+        want,
+        b"ctrsim: cannot read\n",
+        0,
     );
-    assert_eq!(rt; notes.bytes(), b"ctrsim: cannot write\n".as_slice());
+    Ok(())
+}
 
-    // the notes fail, which changes nothing
-    let mut source = MemSource::new(rt.alloc(), ROW, &[], &[])?;
-    let mut sink = MemSink::new(rt.alloc(), 0, &[], &[])?;
-    let mut notes = MemSink::new(rt.alloc(), 128, &[], &[0])?;
-    let outcome = ctrsim(rt.alloc(), &words, &mut source, &mut sink, &mut notes);
-    assert_eq!(rt; outcome.status, 4);
-    assert_eq!(rt; notes.bytes().len(), 0);
+const CANNOT_WRITE: Outcome = Outcome {
+    status: 4,
+    fault: Some(Fault::WriteFault),
+};
+
+#[test]
+fn a_write_that_fails_leaves_a_proper_prefix(rt: HostRuntime) -> Result<(), NoMemory> {
+    let mut source = MemSource::new(rt.alloc(), ONE_CALL, &[], &[])?;
+    let sink = MemSink::new(rt.alloc(), 4096, &[10], &[3])?;
+    let notes = MemSink::new(rt.alloc(), 128, &[5], &[])?;
+    let ended = call(rt.alloc(), &["run"], &mut source, sink, notes)?;
+    stops(
+        &rt,
+        "the fourth write",
+        &ended,
+        CANNOT_WRITE,
+        b"ctrsim: cannot write\n",
+        30,
+    );
+    Ok(())
+}
+
+#[test]
+fn notes_that_fail_change_nothing(rt: HostRuntime) -> Result<(), NoMemory> {
+    let mut source = MemSource::new(rt.alloc(), ONE_CALL, &[], &[])?;
+    let sink = MemSink::new(rt.alloc(), 0, &[], &[])?;
+    let notes = MemSink::new(rt.alloc(), 128, &[], &[0])?;
+    let ended = call(rt.alloc(), &["run"], &mut source, sink, notes)?;
+    stops(&rt, "no room", &ended, CANNOT_WRITE, b"", 0);
     Ok(())
 }

@@ -20,37 +20,49 @@ pub fn schedule(
     image: &[u8],
     steps: &[u8],
 ) -> Result<Vec<u8>, AllocError> {
-    let mut text = Vec::from_slice(alloc, b"ctr-schedule 1\nharts 1\nlayout 803\ntask ")?;
-    text.extend_from_slice(sizes)?;
-    text.extend_from_slice(b" 0 4 0 0\nimages\n")?;
-    text.extend_from_slice(image)?;
-    text.extend_from_slice(b"run 0 0 ")?;
-    text.extend_from_slice(steps)?;
-    text.extend_from_slice(b"\nsample 0\nend\n")?;
+    let mut text = Vec::new(alloc);
+    for part in [
+        b"ctr-schedule 1\nharts 1\nlayout 803\ntask ".as_slice(),
+        sizes,
+        b" 0 4 0 0\nimages\n",
+        image,
+        b"run 0 0 ",
+        steps,
+        b"\nsample 0\nend\n",
+    ] {
+        text.extend_from_slice(part)?;
+    }
     Ok(text)
 }
 
-/// The call with these words on this input, which comes in pieces, into a sink of so many bytes.
+/// The call with these words over these ends. What it says is kept in `notes`.
 pub fn call(
     alloc: Global,
     words: &[&str],
-    input: &[u8],
-    pieces: &[usize],
-    room: usize,
-) -> Result<Ended, NoMemory>
-    requires { All (λ p. 0 < p) pieces.now }
-{
+    source: &mut MemSource,
+    sink: MemSink,
+    notes: MemSink,
+) -> Result<Ended, NoMemory> {
     let mut list = Vec::new(alloc);
     for word in words {
         list.push(String::from_str(alloc, word)?)?;
     }
-    let mut source = MemSource::new(alloc, input, pieces, &[])?;
-    let mut sink = MemSink::new(alloc, room, &[], &[])?;
-    let mut notes = MemSink::new(alloc, 128, &[], &[])?;
-    let outcome = ctrsim(alloc, &list, &mut source, &mut sink, &mut notes);
+    let mut sink = sink;
+    let mut notes = notes;
+    let outcome = ctrsim(alloc, &list, source, &mut sink, &mut notes);
     Ok(Ended {
         outcome,
         sink,
         notes,
     })
+}
+
+/// The call with these words on this input, which comes in pieces, into ample room.
+pub fn run(alloc: Global, words: &[&str], input: &[u8], pieces: &[usize]) -> Result<Ended, NoMemory>
+    requires { All (λ p. 0 < p) pieces.now }
+{
+    let mut source = MemSource::new(alloc, input, pieces, &[])?;
+    let sink = MemSink::new(alloc, 4096, &[], &[])?;
+    let notes = MemSink::new(alloc, 128, &[], &[])?;
+    call(alloc, words, &mut source, sink, notes)
 }

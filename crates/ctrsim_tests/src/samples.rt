@@ -1,8 +1,9 @@
 // Schedules that give a sample.
-use crate::input::{call, schedule};
+use crate::input::{Ended, run, schedule};
 use ctr_port::NoMemory;
 use ctrsim_cli::Outcome;
 use std::alloc::{AllocError, Global};
+use std::process::Abort;
 
 const DONE: Outcome = Outcome {
     status: 0,
@@ -27,81 +28,118 @@ const CALL_BRANCH: &[(u64, u64, u64)] = &[(0x8000_0000, 0x8000_0008, 0x40_0000)]
 
 const TAKEN_BRANCH: &[(u64, u64, u64)] = &[(0x8000_0000, 0x8000_0008, 0x10_0000)];
 
-// The words IMAGE and MEM, the image, the word STEPS, the ip, and the branches.
-const SAMPLED: [(&[u8], &[u8], &[u8], u64, &[(u64, u64, u64)]); 6] = [
-    (b"4 8", CALL, b"1", 0x8000_0008, CALL_BRANCH),
-    (b"4 8", CALL, b"0", 0x8000_0000, &[]),
-    (
-        b"0000000004 08",
-        CALL,
-        b"0000000001",
-        0x8000_0008,
-        CALL_BRANCH,
-    ), // leading zeros
-    (
-        b"4 12",
-        b"\x63\x04\x00\x00",
-        b"1",
-        0x8000_0008,
-        TAKEN_BRANCH,
-    ), // 00000463 beq x0, x0, 8
-    (b"4 4", b"\x63\x14\x00\x00", b"1", 0x8000_0004, &[]), // 00001463 bne x0, x0, 8 isn't taken
-    (
-        // addi x5, x0, 2; addi x5, x5, -1; bne x5, x0, -4; jal x6, 4; jalr x1, 0(x6)
-        b"20 20",
-        b"\x93\x02\x20\x00\x93\x82\xF2\xFF\xE3\x9E\x02\xFE\x6F\x03\x40\x00\xE7\x00\x03\x00",
-        b"7",
-        0x8000_0010,
-        &[
+// A schedule with the sample that it gives.
+#[derive(Clone, Copy)]
+struct Case {
+    name: &'static str,
+    // the words IMAGE and MEM
+    sizes: &'static [u8],
+    image: &'static [u8],
+    steps: &'static [u8],
+    ip: u64,
+    branches: &'static [(u64, u64, u64)],
+}
+
+const SAMPLED: [Case; 5] = [
+    Case {
+        name: "no step",
+        sizes: b"4 8",
+        image: CALL,
+        steps: b"0",
+        ip: 0x8000_0000,
+        branches: &[],
+    },
+    Case {
+        name: "leading zeros",
+        sizes: b"0000000004 08",
+        image: CALL,
+        steps: b"0000000001",
+        ip: 0x8000_0008,
+        branches: CALL_BRANCH,
+    },
+    // 00000463 beq x0, x0, 8
+    Case {
+        name: "a branch that is taken",
+        sizes: b"4 12",
+        image: b"\x63\x04\x00\x00",
+        steps: b"1",
+        ip: 0x8000_0008,
+        branches: TAKEN_BRANCH,
+    },
+    // 00001463 bne x0, x0, 8
+    Case {
+        name: "a branch that isn't taken",
+        sizes: b"4 4",
+        image: b"\x63\x14\x00\x00",
+        steps: b"1",
+        ip: 0x8000_0004,
+        branches: &[],
+    },
+    // addi x5, x0, 2; addi x5, x5, -1; bne x5, x0, -4; jal x6, 4; jalr x1, 0(x6)
+    Case {
+        name: "a loop",
+        sizes: b"20 20",
+        image: b"\x93\x02\x20\x00\x93\x82\xF2\xFF\xE3\x9E\x02\xFE\x6F\x03\x40\x00\xE7\x00\x03\x00",
+        steps: b"7",
+        ip: 0x8000_0010,
+        branches: &[
             (0x8000_0010, 0x8000_0010, 0x50_0000), // JALR with the link in x1: an indirect call
             (0x8000_000C, 0x8000_0010, 0x20_0000), // JAL with the link in x6: no call
             (0x8000_0008, 0x8000_0004, 0x10_0000), // taken once; the second time it isn't
         ],
-    ),
+    },
 ];
 
 // A sample of mode M with this ip and these branches, youngest first: from, to, flags.
 fn sample(alloc: Global, ip: u64, branches: &[(u64, u64, u64)]) -> Result<Vec<u8>, AllocError> {
-    let size = (branches.len() as u64).wrapping_mul(24).wrapping_add(32);
-    let mut bytes = Vec::from_slice(alloc, &[9, 0, 0, 0, 3, 0])?;
-    bytes.push((size % 256) as u8)?;
-    bytes.push((size / 256 % 256) as u8)?;
-    bytes.extend_from_slice(&ip.to_le_bytes())?;
-    bytes.extend_from_slice(&[1, 0, 0, 0, 1, 0, 0, 0])?;
-    bytes.extend_from_slice(&(branches.len() as u64).to_le_bytes())?;
+    let count = branches.len() as u64;
+    let size = count.wrapping_mul(24).wrapping_add(32);
+    let header = 9 + (3 << 32) + (size % 65536) * (1 << 48);
+    let mut bytes = Vec::new(alloc);
+    for word in [header, ip, 1 + (1 << 32), count] {
+        bytes.extend_from_slice(&word.to_le_bytes())?;
+    }
     for (from, to, flags) in branches {
-        bytes.extend_from_slice(&from.to_le_bytes())?;
-        bytes.extend_from_slice(&to.to_le_bytes())?;
-        bytes.extend_from_slice(&flags.to_le_bytes())?;
+        for word in [*from, *to, *flags] {
+            bytes.extend_from_slice(&word.to_le_bytes())?;
+        }
     }
     Ok(bytes)
+}
+
+// The call on a schedule is done, says nothing, and writes this.
+fn gives(rt: &impl Abort, name: &str, ended: &Ended, want: &[u8]) {
+    assert_eq!(rt; ended.outcome, DONE, "{name}");
+    assert_eq!(rt; ended.sink.bytes(), want, "{name}");
+    assert_eq!(rt; ended.notes.bytes().len(), 0, "{name}");
 }
 
 #[test]
 fn one_call_is_these_bytes(rt: HostRuntime) -> Result<(), NoMemory> {
     let text = schedule(rt.alloc(), b"4 8", CALL, b"1")?;
-    let ended = call(rt.alloc(), &["run"], text.as_slice(), &[], 4096)?;
-    assert_eq!(rt; ended.outcome, DONE);
-    assert_eq!(rt; ended.sink.bytes(), ONE_CALL.as_slice());
-    assert_eq!(rt; ended.notes.bytes().len(), 0, "nothing is said");
+    let ended = run(rt.alloc(), &["run"], text.as_slice(), &[])?;
+    gives(&rt, "one call", &ended, ONE_CALL.as_slice());
     Ok(())
 }
 
 #[test]
 fn schedules_give_the_sample_of_their_last_step(rt: HostRuntime) -> Result<(), NoMemory> {
-    for (sizes, image, steps, ip, branches) in SAMPLED {
-        let want = sample(rt.alloc(), ip, branches)?;
-        let text = schedule(rt.alloc(), sizes, image, steps)?;
-        for pieces in [&[].as_slice(), &[1].as_slice(), &[7, 2].as_slice()] {
-            let ended = call(rt.alloc(), &["run"], text.as_slice(), pieces, 4096)?;
-            assert_eq!(rt; ended.outcome, DONE, "{sizes:?} {image:?} {steps:?}");
-            assert_eq!(rt;
-                ended.sink.bytes(),
-                want.as_slice(),
-                "{sizes:?} {image:?} {steps:?}"
-            );
-        }
+    for case in SAMPLED {
+        let want = sample(rt.alloc(), case.ip, case.branches)?;
+        let text = schedule(rt.alloc(), case.sizes, case.image, case.steps)?;
+        let ended = run(rt.alloc(), &["run"], text.as_slice(), &[])?;
+        gives(&rt, case.name, &ended, want.as_slice());
     }
+    Ok(())
+}
+
+#[test]
+fn pieces_change_nothing(rt: HostRuntime) -> Result<(), NoMemory> {
+    let text = schedule(rt.alloc(), b"4 8", CALL, b"1")?;
+    let ended = run(rt.alloc(), &["run"], text.as_slice(), &[1])?;
+    gives(&rt, "pieces of 1 byte", &ended, ONE_CALL.as_slice());
+    let ended = run(rt.alloc(), &["run"], text.as_slice(), &[7, 2])?;
+    gives(&rt, "pieces of 7 and 2 bytes", &ended, ONE_CALL.as_slice());
     Ok(())
 }
 
@@ -117,9 +155,8 @@ fn the_sixteen_youngest_of_seventeen_jumps_are_kept(rt: HostRuntime) -> Result<(
     }
     let want = sample(rt.alloc(), 0x8000_0044, branches.as_slice())?;
     let text = schedule(rt.alloc(), b"68 68", image.as_slice(), b"17")?;
-    let ended = call(rt.alloc(), &["run"], text.as_slice(), &[], 4096)?;
-    assert_eq!(rt; ended.outcome, DONE);
-    assert_eq!(rt; ended.sink.bytes().len(), 416);
-    assert_eq!(rt; ended.sink.bytes(), want.as_slice());
+    let ended = run(rt.alloc(), &["run"], text.as_slice(), &[])?;
+    assert_eq!(rt; want.len(), 416);
+    gives(&rt, "seventeen jumps", &ended, want.as_slice());
     Ok(())
 }
