@@ -5,3 +5,7 @@ pub mod Numbers
 pub mod Rows
 pub mod Irqs
 pub mod Header
+pub mod Heads
+pub mod Images
+pub mod Commands
+pub mod Reader

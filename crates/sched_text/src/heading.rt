@@ -99,6 +99,7 @@ impl Progress {
         requires { length self.old.tasks ≤ 64 }
         ensures step { Stepped (irq_step self.old line.now) self.new result }
         ensures count { IfOk result (λ _. (length self.new.irqs ≡ length self.old.irqs + 1) × (self.new.tasks ≡ self.old.tasks) × (self.new.place ≡ Place.Irqs)) }
+        ensures few { IfOk result (λ _. length self.new.irqs ≤ 65537) }
     {
         let words = irq_row(line)?;
         if words.task >= self.tasks.items().len() as u64 {
@@ -119,10 +120,12 @@ impl Progress {
 
     // An irq line or `images`.
     fn after_irq(&mut self, line: &[u8]) -> Result<(), StepFault>
-        requires { length self.old.tasks ≤ 64 }
+        requires tasks { length self.old.tasks ≤ 64 }
+        requires irqs { length self.old.irqs ≤ 65537 }
         ensures step { Stepped (after_irq_step self.old line.now) self.new result }
         ensures count { IfOk result (λ _. length self.new.irqs + lines_before self.new.place ≡ length self.old.irqs + 4) }
         ensures tasks { IfOk result (λ _. self.new.tasks ≡ self.old.tasks) }
+        ensures few { IfOk result (λ _. length self.new.irqs ≤ 65537) }
     {
         if has_form(line, IRQ, 4) {
             return self.irq(line);
@@ -136,10 +139,11 @@ impl Progress {
 
     // A task line, an irq line or `images`.
     fn after_task(&mut self, line: &[u8]) -> Result<(), StepFault>
-        requires { length self.old.tasks ≤ 64 }
+        requires tasks { length self.old.tasks ≤ 64 }
+        requires irqs { length self.old.irqs ≤ 65537 }
         ensures step { Stepped (after_task_step self.old line.now) self.new result }
         ensures count { IfOk result (λ _. length self.new.tasks + length self.new.irqs + lines_before self.new.place ≡ length self.old.tasks + length self.old.irqs + 4) }
-        ensures few { IfOk result (λ _. length self.new.tasks ≤ 64) }
+        ensures few { IfOk result (λ _. (length self.new.tasks ≤ 64) × (length self.new.irqs ≤ 65537)) }
     {
         if has_form(line, TASK, 7) {
             return self.task(line);
@@ -149,10 +153,11 @@ impl Progress {
 
     /// What one more line says.
     pub(crate) fn step(&mut self, line: &[u8]) -> Result<(), StepFault>
-        requires { length self.old.tasks ≤ 64 }
+        requires tasks { length self.old.tasks ≤ 64 }
+        requires irqs { length self.old.irqs ≤ 65537 }
         ensures step { Stepped (step self.old line.now) self.new result }
         ensures count { IfOk result (λ _. lines_of self.new ≡ lines_of self.old + 1) }
-        ensures few { IfOk result (λ _. length self.new.tasks ≤ 64) }
+        ensures few { IfOk result (λ _. (length self.new.tasks ≤ 64) × (length self.new.irqs ≤ 65537)) }
     {
         match self.place {
             Place::Version => {

@@ -58,9 +58,11 @@ impl Irqs {
     }
 
     /// Why a line may not follow those that are here, if so. It looks at one mark, however many lines there are.
+    #[tactic(auto, using(crate::proofs::MarkLaws::marked_few))]
     pub(crate) fn refusal(&self, irq: IrqLine) -> Option<Reason>
         requires { irq.task < 64 }
-        ensures { result ≡ irq_refusal (mark_of irq.task self.now) irq }
+        ensures refusal { result ≡ irq_refusal (mark_of irq.task self.now) irq }
+        ensures few { length self.now ≤ 65536 }
     {
         let mark = self.marks[irq.task as usize];
         if mark.count >= MOST {
@@ -86,14 +88,6 @@ impl Irqs {
             cause: irq.cause,
         };
         Ok(())
-    }
-
-    /// How many lines there are.
-    pub(crate) fn len(&self) -> usize
-        ensures len { result ≡ length self.now }
-        ensures most { result ≤ 65536 }
-    {
-        self.list.items().len()
     }
 
     pub(crate) fn into_lines(self) -> IrqLines

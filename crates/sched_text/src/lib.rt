@@ -1,11 +1,15 @@
 //! The schedule text: which tasks run on which hart, for how many steps.
 #![tactic(auto)]
 
+mod commands;
 mod cutting;
 mod faults;
+mod header;
 mod heading;
+mod imaging;
 mod irqs;
 mod lists;
+mod reader;
 mod reading;
 mod rows;
 mod schedule;
@@ -13,5 +17,6 @@ mod window;
 mod words;
 
 pub use faults::{CommandFault, LineFault, Reason, ScheduleFault};
+pub use reader::ScheduleReader;
 pub use lists::{Image, IrqLines, TaskLines};
 pub use schedule::{Command, Header, IrqLine, TaskLine};
