@@ -1,10 +1,10 @@
 -- One line of the header after another.
-use Rattle.std.proofs.Common.{◌≡◌, ℕ, suc, ◌+◌, ◌-◌, List, Option, None, Some, Result, Ok, Err, refl, ap, ◌∙◌, sym, add-one, arith, subst}
+use Rattle.std.proofs.Common.{◌≡◌, ℕ, suc, ◌+◌, List, Option, None, Some, Result, Ok, Err, refl, ap, ◌∙◌, sym, add-one, true, false, subst}
 use Rattle.ctr_port.specs.InHand.{text_of, Same, Of}
 use Rattle.ctr_port.proofs.InHand.{of_map, of_then}
 use Rattle.sched_text.specs.Lines.{LineCut, Line, Long, Open, line_at}
-use Rattle.sched_text.specs.Header.{start, step, refuse, row_cut, header_cut, next_line, after}
-use Rattle.sched_text.specs.Heads.{OneLine, Heads, IsBegun}
+use Rattle.sched_text.specs.Header.{start, step, refuse, row_cut, header_cut, next_line, after, is_done}
+use Rattle.sched_text.specs.Heads.{OneLine, Heads, IsBegun, IsCutOff, HeaderBreak, HasHeader, done}
 use Rattle.sched_text.specs.declared.heading.Progress.{Progress}
 use Rattle.sched_text.specs.declared.schedule.Header.{Header}
 use Rattle.sched_text.specs.declared.faults.Reason.{Reason}
@@ -53,10 +53,19 @@ came_more a b c n p q came comes =
     of_then a b c (Came n p) (Comes (n + 1) p (λ t'. Ok (q, t'))) (Came (n + 1) q) came comes (λ x y z e f. after_more n x ∙ ap (next_line (n + 1)) e ∙ f)
 
 -- and one more line that stops the reading
-pub came_stops : (f : ScheduleFault) (a b c : Option (List ℕ)) (n : ℕ) (p q : Progress) (hand : List ℕ) → Of a b (Came n p) → OneLine (n + 1) p q b c hand (Err f) → Heads (n + 1) a c hand (Err f)
-came_stops (fault.Line f) a b c n p q hand came stops =
-    of_then a b c (Came n p) (Comes (n + 1) p (λ t'. Err f)) (λ t t'. after (n + 1) t ≡ Err f) came stops (λ x y z e g. after_more n x ∙ ap (next_line (n + 1)) e ∙ g)
-came_stops fault.ReadFault a b c n p q hand came stops =
-    (stops.0, of_then a b c (Came n p) (λ t t'. t' ≡ t) (IsBegun (n + 1)) came stops.1
-      (λ x y z e same. let back : n + 1 - 1 ≡ n = omega arith in (p, rw (back, same) e)))
-came_stops fault.Memory a b c n p q hand came stops = tt
+pub came_stops : (f : ScheduleFault) (a b c : Option (List ℕ)) (n : ℕ) (p q : Progress) (hand : List ℕ) → Of a b (Came n p) → is_done p.place ≡ false → OneLine (n + 1) p q b c hand (Err f)
+    → Heads (n + 1) a c hand (Err f)
+came_stops (fault.Line f) a b c n p q hand came goes_on stops =
+    (stops.0,
+    of_then a b c (Came n p) (Comes (n + 1) p (λ t'. Err f)) (λ t t'. HeaderBreak t f) came stops.1
+      (λ x y z e g. record { before = n; progress = p; rest = y; begun = record { reads = e; goes_on = goes_on }; refused = g }))
+came_stops fault.ReadFault a b c n p q hand came goes_on stops =
+    (stops.0, of_then a b c (Came n p) (λ t t'. t' ≡ t) (IsCutOff (n + 1)) came stops.1
+      (λ x y z e same. (n, p, refl, record { reads = e ∙ ap (λ (t : List ℕ). Ok (p, t)) (sym same); goes_on = goes_on })))
+came_stops fault.Memory a b c n p q hand came goes_on stops = tt
+
+-- a header is whole
+pub came_ends : (a b : Option (List ℕ)) (n : ℕ) (p : Progress) (h : Header) → Of a b (Came n p) → is_done p.place ≡ true → p ≡ done h → Of a b (λ t t'. HasHeader t n (done h) t')
+came_ends a b n p h came whole e =
+    of_map a b (Came n p) (λ t t'. HasHeader t n (done h) t') came
+      (λ t t' r. record { reads = r ∙ ap (λ (q : Progress). Ok (q, t')) e; whole = subst (λ (q : Progress). is_done q.place ≡ true) e whole })

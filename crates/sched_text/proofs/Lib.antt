@@ -5,3 +5,4 @@ pub mod TextLaws
 pub mod CommandLaws
 pub mod HeadLaws
 pub mod ImageLaws
+pub mod BreakLaws

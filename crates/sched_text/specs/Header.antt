@@ -1,9 +1,10 @@
 -- The lines up to `images`, one by one.
-use Rattle.std.specs.Prelude.{◌≡◌, ℕ, zero, suc, ◌+◌, ◌<◌, if◌then◌else◌, nat_lt, Bool, true, false, List, [], ◌∷◌, ◌++◌, length, Option, Some, None, Result, Ok, Err, ⊤}
-use Rattle.std.specs.List.{sum_by}
+use Rattle.std.specs.Prelude.{◌≡◌, ℕ, zero, suc, ◌+◌, ◌<◌, ◌≤◌, if◌then◌else◌, nat_lt, Bool, true, false, List, [], ◌∷◌, ◌++◌, length, Option, Some, None, Result, Ok, Err, ⊤}
+use Rattle.std.specs.List.{All}
+use Rattle.perf_sample.specs.Layout.{IsLayout}
 use Rattle.sched_text.specs.Lines.{LineCut, Line, Long, Open, line_at}
-use Rattle.sched_text.specs.Rows.{then_with, has_form, version_of, harts_of, layout_of, task_of, irq_of}
-use Rattle.sched_text.specs.Irqs.{mark_of, irq_refusal}
+use Rattle.sched_text.specs.Rows.{then_with, has_form, version_of, harts_of, layout_of, task_of, irq_of, IsTask}
+use Rattle.sched_text.specs.Irqs.{mark_of, irq_refusal, IsIrq, AllFollow}
 use Rattle.sched_text.specs.declared.heading.Place.{Place}
 use Rattle.sched_text.specs.declared.heading.Place.TheVariants as place
 use Rattle.sched_text.specs.declared.heading.Progress.{Progress}
@@ -74,6 +75,31 @@ abbrev pub Stepped : Result Progress Reason → Progress → Result (Unit {0}) S
 Stepped stepped new (Ok _) = stepped ≡ Ok new
 Stepped stepped new (Err (fault.Refused why)) = stepped ≡ Err why
 Stepped stepped new (Err fault.Memory) = ⊤
+
+-- a task line was read
+abbrev pub has_tasks : Place → Bool
+has_tasks place.Tasks = true
+has_tasks place.Irqs = true
+has_tasks place.Images = true
+has_tasks _ = false
+
+-- an irq line may have been read
+abbrev pub has_irqs : Place → Bool
+has_irqs place.Irqs = true
+has_irqs place.Images = true
+has_irqs _ = false
+
+-- what was read has its numbers in their ranges, and its irq lines may follow one another
+pub record Sound (p : Progress) : Type 0 where
+  pub one_hart : 1 ≤ p.harts
+  pub harts : p.harts ≤ 16
+  pub layout : IsLayout p.layout
+  pub few : length p.tasks ≤ 64
+  pub tasks : All IsTask p.tasks
+  pub irqs : All (IsIrq (length p.tasks)) p.irqs
+  pub order : AllFollow p.irqs
+  pub some : has_tasks p.place ≡ true → 0 < length p.tasks
+  pub early : has_irqs p.place ≡ false → p.irqs ≡ []
 
 -- how many lines have been read
 abbrev pub lines_before : Place → ℕ

@@ -1,6 +1,7 @@
 -- Which irq lines may follow others.
-use Rattle.std.specs.Prelude.{◌≡◌, ℕ, ◌+◌, ◌<◌, ◌≤◌, ◌&&◌, ◌||◌, if◌then◌else◌, nat_eq, nat_lt, nat_le, List, [], ◌∷◌, ◌++◌, length, get_or, Option, Some, None, ⊤}
+use Rattle.std.specs.Prelude.{◌≡◌, ℕ, ◌+◌, ◌<◌, ◌≤◌, ◌&&◌, ◌||◌, if◌then◌else◌, nat_eq, nat_lt, nat_le, List, [], ◌∷◌, ◌++◌, length, get_or, true, Option, Some, None, ⊤}
 use Rattle.std.specs.List.{fold, sum_by, All}
+use Rattle.sched_text.specs.Rows.{is_cause}
 use Rattle.sched_text.specs.declared.irqs.Mark.{Mark}
 use Rattle.sched_text.specs.declared.schedule.IrqLine.{IrqLine}
 use Rattle.sched_text.specs.declared.faults.Reason.{Reason}
@@ -26,6 +27,20 @@ irq_refusal m irq =
     if nat_le 1024 m.count then Some reason.TooMany
     else if nat_lt 0 m.count && (nat_lt irq.step m.step || nat_eq irq.step m.step && nat_le irq.cause m.cause) then Some reason.IrqOrder
     else None
+
+-- a line of one of so many tasks, with its numbers in their ranges
+pub record IsIrq (tasks : ℕ) (irq : IrqLine) : Type 0 where
+  pub task : irq.task < tasks
+  pub step : irq.step ≤ 1000000000000000
+  pub cause : is_cause irq.cause ≡ true
+
+-- each of the lines may follow those before it
+unfoldable pub follow_on : List IrqLine → List IrqLine → Type 0
+follow_on before [] = ⊤
+follow_on before (irq ∷ rest) = (irq_refusal (mark_of irq.task before) irq ≡ None) × follow_on (before ++ irq ∷ []) rest
+
+abbrev pub AllFollow : List IrqLine → Type 0
+AllFollow irqs = follow_on [] irqs
 
 -- the marks of the 64 tasks that there can be
 pub record Marked (marks : List Mark) (irqs : List IrqLine) : Type 0 where

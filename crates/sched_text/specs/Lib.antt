@@ -9,3 +9,4 @@ pub mod Heads
 pub mod Images
 pub mod Commands
 pub mod Reader
+pub mod Text

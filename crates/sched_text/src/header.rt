@@ -3,8 +3,8 @@
 ghost use Rattle.std.specs.Prelude.{◌≡◌, ◌≤◌, ◌<◌, ◌+◌, ◌-◌, ◌^◌, length, IfOk};
 ghost use Rattle.ctr_port.specs.Counts.{Rose};
 ghost use Rattle.ctr_port.specs.InHand.{text_of};
-ghost use Rattle.sched_text.specs.Header.{lines_of, is_done};
-ghost use Rattle.sched_text.specs.Heads.{OneLine, Heads, header_of};
+ghost use Rattle.sched_text.specs.Header.{lines_of, is_done, Sound};
+ghost use Rattle.sched_text.specs.Heads.{OneLine, Heads, IsHeader};
 
 use crate::faults::{LineFault, Reason, ScheduleFault};
 use crate::heading::{Place, Progress, StepFault};
@@ -16,11 +16,12 @@ use std::alloc::Global;
 
 // One more line of the header, which has this number.
 fn one_line<S: Source>(progress: &mut Progress, window: &mut Window, source: &mut S, line: u32) -> Result<(), ScheduleFault>
-    requires tasks { length progress.old.tasks ≤ 64 }
+    requires sound { Sound progress.old }
     requires irqs { length progress.old.irqs ≤ 65537 }
     ensures line { OneLine line progress.old progress.new (text_of window.old (S.left source.old)) (text_of window.new (S.left source.new)) window.new result }
     ensures count { IfOk result (λ _. lines_of progress.new ≡ lines_of progress.old + 1) }
-    ensures few { IfOk result (λ _. (length progress.new.tasks ≤ 64) × (length progress.new.irqs ≤ 65537)) }
+    ensures few { IfOk result (λ _. length progress.new.irqs ≤ 65537) }
+    ensures sound { IfOk result (λ _. Sound progress.new) }
     ensures later { S.faults source.old ≤ S.faults source.new }
     ensures cause { result ≡ Err ScheduleFault.ReadFault → Rose (S.faults source.old) (S.faults source.new) }
 {
@@ -64,6 +65,7 @@ fn is_done(place: Place) -> bool
 pub(crate) fn read_header<S: Source>(alloc: Global, window: &mut Window, source: &mut S, line: &mut u32) -> Result<Header, ScheduleFault>
     requires { line.old ≡ 0 }
     ensures heads { Heads line.new (text_of window.old (S.left source.old)) (text_of window.new (S.left source.new)) window.new result }
+    ensures sound { IfOk result IsHeader }
     ensures most { line.new ≤ 65605 }
     ensures later { S.faults source.old ≤ S.faults source.new }
     ensures cause { result ≡ Err ScheduleFault.ReadFault → Rose (S.faults source.old) (S.faults source.new) }

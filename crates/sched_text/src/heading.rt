@@ -1,7 +1,7 @@
 //! The lines up to `images`, one by one.
 
-ghost use Rattle.std.specs.Prelude.{◌≡◌, ◌≢◌, ◌+◌, ◌≤◌, length, IfOk};
-ghost use Rattle.sched_text.specs.Header.{step, task_step, irq_step, after_irq_step, after_task_step, Stepped, lines_before, lines_of, start};
+ghost use Rattle.std.specs.Prelude.{◌≡◌, ◌+◌, ◌<◌, ◌≤◌, [], length, IfOk};
+ghost use Rattle.sched_text.specs.Header.{step, task_step, irq_step, after_irq_step, after_task_step, Stepped, lines_before, lines_of, Sound, start};
 
 use crate::faults::Reason;
 use crate::irqs::Irqs;
@@ -68,7 +68,8 @@ impl From<NoMemory> for StepFault {
 impl Progress {
     /// Before the first line.
     pub(crate) fn new(alloc: Global) -> Self
-        ensures { result ≡ start }
+        ensures start { result ≡ start }
+        ensures sound { Sound result }
     {
         Progress {
             place: Place::Version,
@@ -81,9 +82,11 @@ impl Progress {
 
     // A task line.
     fn task(&mut self, line: &[u8]) -> Result<(), StepFault>
+        requires sound { Sound self.old }
+        requires early { self.old.irqs ≡ [] }
         ensures step { Stepped (task_step self.old line.now) self.new result }
         ensures count { IfOk result (λ _. (length self.new.tasks ≡ length self.old.tasks + 1) × (self.new.irqs ≡ self.old.irqs) × (self.new.place ≡ Place.Tasks)) }
-        ensures few { IfOk result (λ _. length self.new.tasks ≤ 64) }
+        ensures sound { IfOk result (λ _. Sound self.new) }
     {
         let task = task_row(line)?;
         if self.tasks.items().len() >= 64 {
@@ -95,11 +98,14 @@ impl Progress {
     }
 
     // An irq line.
+    #[tactic(auto, using(crate::proofs::MarkLaws::follow_push))]
     fn irq(&mut self, line: &[u8]) -> Result<(), StepFault>
-        requires { length self.old.tasks ≤ 64 }
+        requires sound { Sound self.old }
+        requires some { 0 < length self.old.tasks }
         ensures step { Stepped (irq_step self.old line.now) self.new result }
         ensures count { IfOk result (λ _. (length self.new.irqs ≡ length self.old.irqs + 1) × (self.new.tasks ≡ self.old.tasks) × (self.new.place ≡ Place.Irqs)) }
         ensures few { IfOk result (λ _. length self.new.irqs ≤ 65537) }
+        ensures sound { IfOk result (λ _. Sound self.new) }
     {
         let words = irq_row(line)?;
         if words.task >= self.tasks.items().len() as u64 {
@@ -120,12 +126,14 @@ impl Progress {
 
     // An irq line or `images`.
     fn after_irq(&mut self, line: &[u8]) -> Result<(), StepFault>
-        requires tasks { length self.old.tasks ≤ 64 }
+        requires sound { Sound self.old }
+        requires some { 0 < length self.old.tasks }
         requires irqs { length self.old.irqs ≤ 65537 }
         ensures step { Stepped (after_irq_step self.old line.now) self.new result }
         ensures count { IfOk result (λ _. length self.new.irqs + lines_before self.new.place ≡ length self.old.irqs + 4) }
         ensures tasks { IfOk result (λ _. self.new.tasks ≡ self.old.tasks) }
         ensures few { IfOk result (λ _. length self.new.irqs ≤ 65537) }
+        ensures sound { IfOk result (λ _. Sound self.new) }
     {
         if has_form(line, IRQ, 4) {
             return self.irq(line);
@@ -139,11 +147,14 @@ impl Progress {
 
     // A task line, an irq line or `images`.
     fn after_task(&mut self, line: &[u8]) -> Result<(), StepFault>
-        requires tasks { length self.old.tasks ≤ 64 }
+        requires sound { Sound self.old }
+        requires some { 0 < length self.old.tasks }
+        requires early { self.old.irqs ≡ [] }
         requires irqs { length self.old.irqs ≤ 65537 }
         ensures step { Stepped (after_task_step self.old line.now) self.new result }
         ensures count { IfOk result (λ _. length self.new.tasks + length self.new.irqs + lines_before self.new.place ≡ length self.old.tasks + length self.old.irqs + 4) }
-        ensures few { IfOk result (λ _. (length self.new.tasks ≤ 64) × (length self.new.irqs ≤ 65537)) }
+        ensures few { IfOk result (λ _. length self.new.irqs ≤ 65537) }
+        ensures sound { IfOk result (λ _. Sound self.new) }
     {
         if has_form(line, TASK, 7) {
             return self.task(line);
@@ -153,11 +164,12 @@ impl Progress {
 
     /// What one more line says.
     pub(crate) fn step(&mut self, line: &[u8]) -> Result<(), StepFault>
-        requires tasks { length self.old.tasks ≤ 64 }
+        requires sound { Sound self.old }
         requires irqs { length self.old.irqs ≤ 65537 }
         ensures step { Stepped (step self.old line.now) self.new result }
         ensures count { IfOk result (λ _. lines_of self.new ≡ lines_of self.old + 1) }
-        ensures few { IfOk result (λ _. (length self.new.tasks ≤ 64) × (length self.new.irqs ≤ 65537)) }
+        ensures few { IfOk result (λ _. length self.new.irqs ≤ 65537) }
+        ensures sound { IfOk result (λ _. Sound self.new) }
     {
         match self.place {
             Place::Version => {

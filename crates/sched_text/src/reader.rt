@@ -1,10 +1,10 @@
 //! A schedule read from its source, call by call.
 
-ghost use Rattle.std.specs.Prelude.{◌≡◌, ◌≢◌, ◌≤◌, ◌+◌, None, Some, false, length};
+ghost use Rattle.std.specs.Prelude.{◌≡◌, ◌≢◌, ◌≤◌, ◌+◌, None, Some, false, length, IfOk};
 ghost use Rattle.ctr_port.specs.Counts.{Rose};
 ghost use Rattle.ctr_port.specs.InHand.{text_of};
 ghost use Rattle.sched_text.specs.Commands.{command_at, needs_read};
-ghost use Rattle.sched_text.specs.Heads.{Heads};
+ghost use Rattle.sched_text.specs.Heads.{Heads, IsHeader};
 ghost use Rattle.sched_text.specs.Images.{Images};
 ghost use Rattle.sched_text.specs.Reader.{fresh, Shows, widened, refusal, refusal_of, counted, ends_now};
 
@@ -66,6 +66,7 @@ impl ScheduleReader {
     pub fn header<S: Source>(&mut self, alloc: Global, source: &mut S) -> Result<Header, ScheduleFault>
         requires { self.old ≡ fresh }
         ensures heads { Heads self.new.line (text_of self.old.hand (S.left source.old)) (text_of self.new.hand (S.left source.new)) self.new.hand result }
+        ensures sound { IfOk result IsHeader }
         ensures later { S.faults source.old ≤ S.faults source.new }
         ensures cause { result ≡ Err ScheduleFault.ReadFault → Rose (S.faults source.old) (S.faults source.new) }
         ensures refused { self.new.refused ≡ refusal_of result }
