@@ -46,7 +46,7 @@ pub long_refused : (hand0 hand : List ℕ) (left0 left : Option (List ℕ)) (lin
     → Of (text_of hand0 left0) (text_of hand left) (Says line count (λ t'. refuse line reason.LongLine))
 long_refused hand0 hand left0 left line count same e =
     of_map (text_of hand0 left0) (text_of hand left) (λ t t'. line_at t ≡ Long) (Says line count (λ t'. refuse line reason.LongLine))
-      (long_given hand0 hand left0 left same e) (λ t t' long. ap (command_cut line count) long)
+    (long_given hand0 hand left0 left same e) (λ t t' long. ap (command_cut line count) long)
 
 pub row_refused : (text text' : Option (List ℕ)) (line count : ℕ) (w : List ℕ) (why : Reason) → Of text text' (Begins w) → command_of w ≡ Err why
     → Of text text' (Says line count (λ t'. refuse line why))
@@ -70,13 +70,13 @@ pub row_taken : (text text' : Option (List ℕ)) (line count : ℕ) (w : List �
     → count < 1048576 → Of text text' (Says line count (λ t'. Ok (command, t')))
 row_taken text text' line count w command given row other few =
     of_map text text' (Begins w) (Says line count (λ t'. Ok (command, t'))) given
-      (λ t t' e. counted line count t t' w command e row other ∙ test_true (nat_lt count 1048576) (Ok (command, t')) (refuse line reason.TooMany) (lt-ltb count 1048576 few))
+    (λ t t' e. counted line count t t' w command e row other ∙ test_true (nat_lt count 1048576) (Ok (command, t')) (refuse line reason.TooMany) (lt-ltb count 1048576 few))
 
 pub row_over : (text text' : Option (List ℕ)) (line count : ℕ) (w : List ℕ) (command : Command) → Of text text' (Begins w) → command_of w ≡ Ok command → is_end command ≡ false
     → 1048576 ≤ count → Of text text' (Says line count (λ t'. refuse line reason.TooMany))
 row_over text text' line count w command given row other full =
     of_map text text' (Begins w) (Says line count (λ t'. refuse line reason.TooMany)) given
-      (λ t t' e. counted line count t t' w command e row other ∙ test_false (nat_lt count 1048576) (Ok (command, t')) (refuse line reason.TooMany) (le-ltb count 1048576 full))
+    (λ t t' e. counted line count t t' w command e row other ∙ test_false (nat_lt count 1048576) (Ok (command, t')) (refuse line reason.TooMany) (le-ltb count 1048576 full))
 
 is_end_is : (c : Command) → is_end c ≡ true → c ≡ command.End
 is_end_is command.End e = refl
@@ -99,14 +99,15 @@ pub end_shows : (r : Result (Unit {0}) CommandFault) (text text' text'' : Option
     → is_end c ≡ true → Finishes line text' text'' hand r → Shows (command_at line count) text text'' hand (ended r)
 end_shows (Ok done) text text' text'' line count w hand c given row end finished =
     of_then text text' text'' (Begins w) (λ t t'. end_at line t ≡ Ok (command.End, t')) (Says line count (λ t'. Ok (command.End, t'))) given finished
-      (λ t t' t'' e stops. ends line count t t' w c e row end ∙ stops)
+    (λ t t' t'' e stops. ends line count t t' w c e row end ∙ stops)
 end_shows (Err (fault.Line f)) text text' text'' line count w hand c given row end finished =
     of_then text text' text'' (Begins w) (λ t t'. end_at line t ≡ Err f) (Says line count (λ t'. Err f)) given finished
-      (λ t t' t'' e stops. ends line count t t' w c e row end ∙ stops)
-end_shows (Err fault.ReadFault) text text' text'' line count w hand c given row end finished =
-    (open_nothing hand finished.0,
-    of_then text text' text'' (Begins w) (λ t t'. t' ≡ t) (λ t t'. (t' ≡ t) ⊎ EndsAt (line_at t) t') given finished.1
-      (λ t t' t'' e same. inr (subst (λ (x : LineCut). EndsAt x t'') (sym e) (row ∙ ap Ok (is_end_is c end), sym same))))
+    (λ t t' t'' e stops. ends line count t t' w c e row end ∙ stops)
+end_shows (Err fault.ReadFault) text text' text'' line count w hand c given row end finished = (
+  open_nothing hand finished.0,
+  of_then text text' text'' (Begins w) (λ t t'. t' ≡ t) (λ t t'. (t' ≡ t) ⊎ EndsAt (line_at t) t') given finished.1
+      (λ t t' t'' e same. inr (subst (λ (x : LineCut). EndsAt x t'') (sym e) (row ∙ ap Ok (is_end_is c end), sym same))),
+)
 
 cut_not_open : (c : LineCut) → cut_needs_read c ≡ false → is_open c ≡ false
 cut_not_open (Line line rest) h = refl

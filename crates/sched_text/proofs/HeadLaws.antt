@@ -23,7 +23,7 @@ pub long_line : (hand0 hand : List ℕ) (left0 left : Option (List ℕ)) (n : �
     → Of (text_of hand0 left0) (text_of hand left) (Comes n p (λ t'. refuse n reason.LongLine))
 long_line hand0 hand left0 left n p same e =
     of_map (text_of hand0 left0) (text_of hand left) (λ t t'. line_at t ≡ Long) (Comes n p (λ t'. refuse n reason.LongLine))
-      (long_given hand0 hand left0 left same e) (λ t t' long. ap (header_cut n p) long)
+    (long_given hand0 hand left0 left same e) (λ t t' long. ap (header_cut n p) long)
 
 pub line_steps : (text text' : Option (List ℕ)) (n : ℕ) (p q : Progress) (w : List ℕ) → Of text text' (Begins w) → step p w ≡ Ok q → Of text text' (Comes n p (λ t'. Ok (q, t')))
 line_steps text text' n p q w given e =
@@ -55,17 +55,20 @@ came_more a b c n p q came comes =
 -- and one more line that stops the reading
 pub came_stops : (f : ScheduleFault) (a b c : Option (List ℕ)) (n : ℕ) (p q : Progress) (hand : List ℕ) → Of a b (Came n p) → is_done p.place ≡ false → OneLine (n + 1) p q b c hand (Err f)
     → Heads (n + 1) a c hand (Err f)
-came_stops (fault.Line f) a b c n p q hand came goes_on stops =
-    (stops.0,
-    of_then a b c (Came n p) (Comes (n + 1) p (λ t'. Err f)) (λ t t'. HeaderBreak t f) came stops.1
-      (λ x y z e g. record { before = n; progress = p; rest = y; begun = record { reads = e; goes_on = goes_on }; refused = g }))
-came_stops fault.ReadFault a b c n p q hand came goes_on stops =
-    (stops.0, of_then a b c (Came n p) (λ t t'. t' ≡ t) (IsCutOff (n + 1)) came stops.1
-      (λ x y z e same. (n, p, refl, record { reads = e ∙ ap (λ (t : List ℕ). Ok (p, t)) (sym same); goes_on = goes_on })))
+came_stops (fault.Line f) a b c n p q hand came goes_on stops = (
+  stops.0,
+  of_then a b c (Came n p) (Comes (n + 1) p (λ t'. Err f)) (λ t t'. HeaderBreak t f) came stops.1
+      (λ x y z e g. record { before = n; progress = p; rest = y; begun = record { reads = e; goes_on = goes_on }; refused = g }),
+)
+came_stops fault.ReadFault a b c n p q hand came goes_on stops = (
+  stops.0,
+  of_then a b c (Came n p) (λ t t'. t' ≡ t) (IsCutOff (n + 1)) came stops.1
+      (λ x y z e same. (n, p, refl, record { reads = e ∙ ap (λ (t : List ℕ). Ok (p, t)) (sym same); goes_on = goes_on })),
+)
 came_stops fault.Memory a b c n p q hand came goes_on stops = tt
 
 -- a header is whole
 pub came_ends : (a b : Option (List ℕ)) (n : ℕ) (p : Progress) (h : Header) → Of a b (Came n p) → is_done p.place ≡ true → p ≡ done h → Of a b (λ t t'. HasHeader t n (done h) t')
 came_ends a b n p h came whole e =
     of_map a b (Came n p) (λ t t'. HasHeader t n (done h) t') came
-      (λ t t' r. record { reads = r ∙ ap (λ (q : Progress). Ok (q, t')) e; whole = subst (λ (q : Progress). is_done q.place ≡ true) e whole })
+    (λ t t' r. record { reads = r ∙ ap (λ (q : Progress). Ok (q, t')) e; whole = subst (λ (q : Progress). is_done q.place ≡ true) e whole })

@@ -46,10 +46,10 @@ test_true b x y e = rw e refl
 pub image_whole : (a b : Option (List ℕ)) (image : List ℕ) (line len : ℕ) → Of a b (Joins image) → length image ≡ len → Of a b (λ t t'. image_at line len t ≡ Ok (image, t'))
 image_whole a b image line len h e =
     of_map a b (Joins image) (λ t t'. image_at line len t ≡ Ok (image, t')) h
-      (λ t t' j.
-      let long : len ≤ length (image ++ t') = omega (arith, length-append image t', e) in
-      rw (j, ← e) (test_false (nat_lt (length (image ++ t')) (length image)) (refuse line reason.Cut) (Ok (take (length image) (image ++ t'), drop (length image) (image ++ t'))) (le-ltb (length (image ++ t')) (length image) (omega (arith, long, e)))
-      ∙ ap Ok (rw (take-append_seam image t', drop-append_seam image t') refl)))
+    (λ t t' j.
+    let long : len ≤ length (image ++ t') = omega (arith, length-append image t', e) in
+    rw (j, ← e) (test_false (nat_lt (length (image ++ t')) (length image)) (refuse line reason.Cut) (Ok (take (length image) (image ++ t'), drop (length image) (image ++ t'))) (le-ltb (length (image ++ t')) (length image) (omega (arith, long, e)))
+    ∙ ap Ok (rw (take-append_seam image t', drop-append_seam image t') refl)))
 
 -- the text ended inside the image
 pub image_cut : (a : Option (List ℕ)) (hand image : List ℕ) (left : Option (List ℕ)) (line len : ℕ) → Of a (text_of hand left) (Joins image) → length image < len → hand ≡ [] → IsAtEnd left
@@ -72,8 +72,9 @@ pub took : (hand hand' image image' : List ℕ) (len : ℕ) → length image ≤
 took hand hand' image image' len short i w =
     let n = min (len - length image) (length hand) in
     let size : length image' ≡ length image + length (take n hand) = ap length i ∙ length-append image (take n hand) in
-    let part : length (take n hand) ≡ min n (length hand) = length-take n hand in
-    (omega (arith, size, part),
-    λ less. let all : length hand ≤ n = omega (arith, size, part, less) in w ∙ drop_all n hand all,
-    λ enough. omega (arith, size, part, enough),
-    λ some more. omega (arith, size, part, some, more))
+    let part : length (take n hand) ≡ min n (length hand) = length-take n hand in (
+      omega (arith, size, part),
+      λ less. let all : length hand ≤ n = omega (arith, size, part, less) in w ∙ drop_all n hand all,
+      λ enough. omega (arith, size, part, enough),
+      λ some more. omega (arith, size, part, some, more),
+    )

@@ -17,11 +17,12 @@ pub words_whole : (line : List ℕ) → position_or_len is_space line ≡ length
 words_whole [] e = refl
 words_whole (b ∷ line) e =
     elim (eqb_tells b 32) [
-      inl p ↦ let none : 0 ≡ suc (length line) = rw p.0 at e in absurd (omega (arith, none))
+      | inl p ↦ let none : 0 ≡ suc (length line) = rw p.0 at e in absurd (omega (arith, none))
       | inr p ↦
-        let more : 1 + position_or_len is_space line ≡ suc (length line) = rw p.0 at e in
-        let rest = words_whole line (omega (arith, more)) in
-        rw (p.0, rest) refl ]
+          let more : 1 + position_or_len is_space line ≡ suc (length line) = rw p.0 at e in
+          let rest = words_whole line (omega (arith, more)) in
+          rw (p.0, rest) refl
+    ]
 
 -- the first word, and the words of what follows the space after it
 pub words_first : (line : List ℕ) → position_or_len is_space line < length line → words line ≡ take (position_or_len is_space line) line ∷ words (drop (position_or_len is_space line + 1) line)
@@ -49,5 +50,5 @@ next_word line front back at first f b some =
     let within : position_or_len is_space line < length line = omega (arith, len, first) in
     let cut = words_first line within in
     let behind : take (length back - 1) (drop 1 back) ≡ drop (position_or_len is_space line + 1) line =
-      take_all (length back - 1) (drop 1 back) (omega (arith, length-drop 1 back)) ∙ ap (drop 1) (b ∙ ap (λ i. drop i line) first) ∙ drop-drop 1 (position_or_len is_space line) line in
+    take_all (length back - 1) (drop 1 back) (omega (arith, length-drop 1 back)) ∙ ap (drop 1) (b ∙ ap (λ i. drop i line) first) ∙ drop-drop 1 (position_or_len is_space line) line in
     (f ∙ ap (λ i. take i line) first ∙ rw cut refl, ap words behind ∙ rw cut refl)

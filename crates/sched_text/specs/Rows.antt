@@ -34,21 +34,21 @@ hexadecimal line place = or_not_number (number 16 (word line place))
 abbrev pub version_of : List ℕ → Result (Unit {0}) Reason
 version_of line =
     if has_form line VERSION.now 2 then
-      then_with (decimal line 1) (λ version. if nat_eq version 1 then Ok tt else Err reason.Range)
+    then_with (decimal line 1) (λ version. if nat_eq version 1 then Ok tt else Err reason.Range)
     else Err reason.NotWord
 
 -- harts N
 abbrev pub harts_of : List ℕ → Result ℕ Reason
 harts_of line =
     if has_form line HARTS.now 2 then
-      then_with (decimal line 1) (λ harts. if nat_le 1 harts && nat_le harts 16 then Ok harts else Err reason.Range)
+    then_with (decimal line 1) (λ harts. if nat_le 1 harts && nat_le harts 16 then Ok harts else Err reason.Range)
     else Err reason.NotWord
 
 -- layout HEX
 abbrev pub layout_of : List ℕ → Result ℕ Reason
 layout_of line =
     if has_form line LAYOUT.now 2 then
-      then_with (hexadecimal line 1) (λ bits. if nat_le bits (2 ^ 64 - 1) && is_layout bits then Ok bits else Err reason.Range)
+    then_with (hexadecimal line 1) (λ bits. if nat_le bits (2 ^ 64 - 1) && is_layout bits then Ok bits else Err reason.Range)
     else Err reason.NotWord
 
 -- the ranges of a task line
@@ -61,11 +61,11 @@ task_in_range image mem depth mctrctl vsctrctl period =
 abbrev pub task_of : List ℕ → Result TaskLine Reason
 task_of line =
     if has_form line TASK.now 7 then
-      then_with (decimal line 1) (λ image. then_with (decimal line 2) (λ mem. then_with (decimal line 3) (λ depth.
-      then_with (hexadecimal line 4) (λ mctrctl. then_with (hexadecimal line 5) (λ vsctrctl. then_with (decimal line 6) (λ period.
-      if task_in_range image mem depth mctrctl vsctrctl period
-      then Ok (record { image = image; mem = mem; depth = depth; mctrctl = mctrctl; vsctrctl = vsctrctl; period = period })
-      else Err reason.Range))))))
+    then_with (decimal line 1) (λ image. then_with (decimal line 2) (λ mem. then_with (decimal line 3) (λ depth.
+    then_with (hexadecimal line 4) (λ mctrctl. then_with (hexadecimal line 5) (λ vsctrctl. then_with (decimal line 6) (λ period.
+    if task_in_range image mem depth mctrctl vsctrctl period
+    then Ok (record { image = image; mem = mem; depth = depth; mctrctl = mctrctl; vsctrctl = vsctrctl; period = period })
+    else Err reason.Range))))))
     else Err reason.NotWord
 
 -- a task line whose numbers are in their ranges
@@ -87,9 +87,9 @@ is_cause c =
 abbrev pub irq_of : List ℕ → Result IrqWords Reason
 irq_of line =
     if has_form line IRQ.now 4 then
-      then_with (decimal line 1) (λ task. then_with (decimal line 2) (λ step. then_with (decimal line 3) (λ cause.
-      if nat_le step 1000000000000000 && is_cause cause then Ok (record { task = kept task; step = step; cause = cause })
-      else Err reason.Range)))
+    then_with (decimal line 1) (λ task. then_with (decimal line 2) (λ step. then_with (decimal line 3) (λ cause.
+    if nat_le step 1000000000000000 && is_cause cause then Ok (record { task = kept task; step = step; cause = cause })
+    else Err reason.Range)))
     else Err reason.NotWord
 
 -- run HART TASK STEPS

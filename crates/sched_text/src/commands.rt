@@ -57,7 +57,12 @@ fn last(finished: Result<(), CommandFault>) -> Result<Command, CommandFault>
 
 /// The next command, where its line has this number and so many command lines came before it.
 #[tactic(auto, using(crate::proofs::CommandLaws::not_open))]
-pub(crate) fn next_command<S: Source>(window: &mut Window, source: &mut S, line: u32, commands: u32) -> Result<Command, CommandFault>
+pub(crate) fn next_command<S: Source>(
+    window: &mut Window,
+    source: &mut S,
+    line: u32,
+    commands: u32,
+) -> Result<Command, CommandFault>
     requires { line < 2 ^ 32 - 1 }
     ensures shows { Shows (command_at line commands) (text_of window.old (S.left source.old)) (text_of window.new (S.left source.new)) window.new result }
     ensures later { S.faults source.old ≤ S.faults source.new }

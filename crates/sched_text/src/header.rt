@@ -15,7 +15,12 @@ use ctr_port::Source;
 use std::alloc::Global;
 
 // One more line of the header, which has this number.
-fn one_line<S: Source>(progress: &mut Progress, window: &mut Window, source: &mut S, line: u32) -> Result<(), ScheduleFault>
+fn one_line<S: Source>(
+    progress: &mut Progress,
+    window: &mut Window,
+    source: &mut S,
+    line: u32,
+) -> Result<(), ScheduleFault>
     requires sound { Sound progress.old }
     requires irqs { length progress.old.irqs ≤ 65537 }
     ensures line { OneLine line progress.old progress.new (text_of window.old (S.left source.old)) (text_of window.new (S.left source.new)) window.new result }
@@ -62,7 +67,12 @@ fn is_done(place: Place) -> bool
 }
 
 /// The lines up to `images`. `line` is the number of the line last begun, 0 before the first.
-pub(crate) fn read_header<S: Source>(alloc: Global, window: &mut Window, source: &mut S, line: &mut u32) -> Result<Header, ScheduleFault>
+pub(crate) fn read_header<S: Source>(
+    alloc: Global,
+    window: &mut Window,
+    source: &mut S,
+    line: &mut u32,
+) -> Result<Header, ScheduleFault>
     requires { line.old ≡ 0 }
     ensures heads { Heads line.new (text_of window.old (S.left source.old)) (text_of window.new (S.left source.new)) window.new result }
     ensures sound { IfOk result IsHeader }

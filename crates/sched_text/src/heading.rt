@@ -7,7 +7,7 @@ use crate::faults::Reason;
 use crate::irqs::Irqs;
 use crate::lists::TaskLines;
 use crate::rows::{
-    IMAGES, IRQ, TASK, has_form, harts_row, irq_row, layout_row, task_row, version_row,
+    IMAGES, IRQ, TASK, harts_row, has_form, irq_row, layout_row, task_row, version_row,
 };
 use crate::schedule::IrqLine;
 use ctr_port::NoMemory;
@@ -48,6 +48,7 @@ pub(crate) enum StepFault {
 impl From<Reason> for StepFault {
     ghost use Rattle.std.specs.Prelude.{◌≡◌};
     ghost use Rattle.sched_text.specs.declared.heading.StepFault.TheVariants.{Refused};
+
     ghost from_gives = { λ reason fault. fault ≡ Refused reason };
 
     fn from(reason: Reason) -> Self {
@@ -58,6 +59,7 @@ impl From<Reason> for StepFault {
 impl From<NoMemory> for StepFault {
     ghost use Rattle.std.specs.Prelude.{◌≡◌};
     ghost use Rattle.sched_text.specs.declared.heading.StepFault.TheVariants.{Memory};
+
     ghost from_gives = { λ _ fault. fault ≡ Memory };
 
     fn from(_: NoMemory) -> Self {

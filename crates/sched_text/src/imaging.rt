@@ -24,7 +24,13 @@ fn take_front(window: &mut Window, image: &mut Image, len: usize) -> Result<(), 
 }
 
 /// An image of so many bytes. `line` is the number of the line `images`.
-pub(crate) fn read_image<S: Source>(alloc: Global, window: &mut Window, source: &mut S, line: u32, len: u32) -> Result<Image, ScheduleFault>
+pub(crate) fn read_image<S: Source>(
+    alloc: Global,
+    window: &mut Window,
+    source: &mut S,
+    line: u32,
+    len: u32,
+) -> Result<Image, ScheduleFault>
     ensures images { Images line len (text_of window.old (S.left source.old)) (text_of window.new (S.left source.new)) window.new result }
     ensures later { S.faults source.old ≤ S.faults source.new }
     ensures cause { result ≡ Err ScheduleFault.ReadFault → Rose (S.faults source.old) (S.faults source.new) }

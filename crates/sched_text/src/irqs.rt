@@ -68,7 +68,9 @@ impl Irqs {
         if mark.count >= MOST {
             return Some(Reason::TooMany);
         }
-        if mark.count > 0 && (irq.step < mark.step || irq.step == mark.step && irq.cause <= mark.cause) {
+        if mark.count > 0
+            && (irq.step < mark.step || irq.step == mark.step && irq.cause <= mark.cause)
+        {
             return Some(Reason::IrqOrder);
         }
         None

@@ -8,6 +8,7 @@ mod header;
 mod heading;
 mod imaging;
 mod irqs;
+mod laws;
 mod lists;
 mod reader;
 mod reading;
@@ -17,6 +18,10 @@ mod window;
 mod words;
 
 pub use faults::{CommandFault, LineFault, Reason, ScheduleFault};
-pub use reader::ScheduleReader;
+pub use laws::one_break;
 pub use lists::{Image, IrqLines, TaskLines};
+pub use reader::ScheduleReader;
 pub use schedule::{Command, Header, IrqLine, TaskLine};
+
+#[cfg(test)]
+mod tests;

@@ -63,7 +63,11 @@ impl ScheduleReader {
     }
 
     /// The lines up to `images`. It is called once and first.
-    pub fn header<S: Source>(&mut self, alloc: Global, source: &mut S) -> Result<Header, ScheduleFault>
+    pub fn header<S: Source>(
+        &mut self,
+        alloc: Global,
+        source: &mut S,
+    ) -> Result<Header, ScheduleFault>
         requires { self.old ≡ fresh }
         ensures heads { Heads self.new.line (text_of self.old.hand (S.left source.old)) (text_of self.new.hand (S.left source.new)) self.new.hand result }
         ensures sound { IfOk result IsHeader }
@@ -82,7 +86,12 @@ impl ScheduleReader {
     }
 
     /// The next image, which has so many bytes: those that its task line says.
-    pub fn image<S: Source>(&mut self, alloc: Global, source: &mut S, len: u32) -> Result<Image, ScheduleFault>
+    pub fn image<S: Source>(
+        &mut self,
+        alloc: Global,
+        source: &mut S,
+        len: u32,
+    ) -> Result<Image, ScheduleFault>
         requires { self.old.refused ≢ Some ScheduleFault.Memory }
         ensures images { self.old.refused ≡ None → Images self.old.line len (text_of self.old.hand (S.left source.old)) (text_of self.new.hand (S.left source.new)) self.new.hand result }
         ensures later { S.faults source.old ≤ S.faults source.new }

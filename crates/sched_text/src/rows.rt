@@ -13,14 +13,23 @@ use perf_sample::Layout;
 
 /// The first words of the lines.
 pub(crate) const VERSION: &[u8] = b"ctr-schedule";
+
 pub(crate) const HARTS: &[u8] = b"harts";
+
 pub(crate) const LAYOUT: &[u8] = b"layout";
+
 pub(crate) const TASK: &[u8] = b"task";
+
 pub(crate) const IRQ: &[u8] = b"irq";
+
 pub(crate) const IMAGES: &[u8] = b"images";
+
 const RUN: &[u8] = b"run";
+
 const SAMPLE: &[u8] = b"sample";
+
 const EVICT: &[u8] = b"evict";
+
 const END: &[u8] = b"end";
 
 /// Whether a line has this first word, and so many words.

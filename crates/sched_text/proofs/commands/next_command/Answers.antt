@@ -45,8 +45,8 @@ returns-then-is_end-clause-shows g c =
     let front = c.split_at.result.0.now in
     let given = line_passed c.args.window.now c.read_line.new.window c.pass.new.self c.bytes.result.now front c.in-Ok.count left left' c.in-Ok.ensures.same c.in-Ok.ensures.line.1 c.bytes.ensures.bytes c.split_at.ensures.front c.pass.ensures in
     rw c.last.ensures
-      (end_shows c.finish.result (text_of c.args.window.now left) (text_of c.pass.new.self left') (text_of c.finish.new.window left'') c.args.line c.args.commands front c.finish.new.window c.in-Ok-row.command
-        given (sym c.command_row-row.ensures ∙ c.in-Ok-row.is) (sym c.is_end.ensures ∙ c.if-is_end.true) c.finish.ensures.finishes)
+    (end_shows c.finish.result (text_of c.args.window.now left) (text_of c.pass.new.self left') (text_of c.finish.new.window left'') c.args.line c.args.commands front c.finish.new.window c.in-Ok-row.command
+    given (sym c.command_row-row.ensures ∙ c.in-Ok-row.is) (sym c.is_end.ensures ∙ c.if-is_end.true) c.finish.ensures.finishes)
 
 pub returns-then-is_end-clause-still : goal.returns-then-is_end-clause-still
 returns-then-is_end-clause-still g c = λ whole.

@@ -25,6 +25,8 @@ returns-in-Refused-clause-line g c =
     let left = g.S.Source.left c.args.source.now in
     let left' = g.S.Source.left c.read_line.new.source in
     let front = c.split_at.result.0.now in
-    let given = line_passed c.args.window.now c.read_line.new.window c.pass.new.self c.bytes.result.now front c.in-Ok.count left left' c.in-Ok.ensures.same c.in-Ok.ensures.line.1 c.bytes.ensures.bytes c.split_at.ensures.front c.pass.ensures in
-    (refl, line_refused (text_of c.args.window.now left) (text_of c.pass.new.self left') c.args.line c.args.progress.now front c.in-Refused.reason given
-      (subst (Stepped (step c.args.progress.now front) c.step-stepped.new.self) (c.in-Err-stepped.is ∙ ap Err c.in-Refused.is) c.step-stepped.ensures.step))
+    let given = line_passed c.args.window.now c.read_line.new.window c.pass.new.self c.bytes.result.now front c.in-Ok.count left left' c.in-Ok.ensures.same c.in-Ok.ensures.line.1 c.bytes.ensures.bytes c.split_at.ensures.front c.pass.ensures in (
+      refl,
+      line_refused (text_of c.args.window.now left) (text_of c.pass.new.self left') c.args.line c.args.progress.now front c.in-Refused.reason given
+          (subst (Stepped (step c.args.progress.now front) c.step-stepped.new.self) (c.in-Err-stepped.is ∙ ap Err c.in-Refused.is) c.step-stepped.ensures.step),
+    )

@@ -13,12 +13,13 @@ loop-window-init g c =
     let none : List ℕ = [] in
     let i : image' ≡ none ++ take (min (c.args.len - length none) (length hand)) hand = rw c.new-image.ensures at c.in-Ok.ensures.image in
     let w : hand' ≡ drop (min (c.args.len - length none) (length hand)) hand = rw c.new-image.ensures at c.in-Ok.ensures.window in
-    let t = took hand hand' none image' c.args.len (omega arith) i w in
-    (joins_moved (text_of hand left) hand hand' none image' left (min (c.args.len - length none) (length hand)) (joins_none hand left) i w,
-    t.0,
-    t.1,
-    omega arith,
-    λ enough. (t.2 (omega (arith, enough)), refl))
+    let t = took hand hand' none image' c.args.len (omega arith) i w in (
+      joins_moved (text_of hand left) hand hand' none image' left (min (c.args.len - length none) (length hand)) (joins_none hand left) i w,
+      t.0,
+      t.1,
+      omega arith,
+      λ enough. (t.2 (omega (arith, enough)), refl),
+    )
 
 pub loop-window-preserved : goal.loop-window-preserved
 loop-window-preserved g c =
@@ -34,9 +35,10 @@ loop-window-preserved g c =
     let same = same_given hand hand filled fills.0 left left left' (same_self hand left) fills.2 fills.3 in
     let short : length image < c.args.len = rw c.items.ensures at c.loop-window-test.true in
     let some : 0 < length filled = omega (arith, ap length fills.2, length-append hand fills.0, fills.1) in
-    let t = took filled hand' image image' c.args.len c.loop-window.invariant.1 c.in-Ok-take_front.ensures.image c.in-Ok-take_front.ensures.window in
-    (joins_moved a filled hand' image image' left' (min (c.args.len - length image) (length filled)) (joins_read a hand filled image left left' c.loop-window.invariant.0 same) c.in-Ok-take_front.ensures.image c.in-Ok-take_front.ensures.window,
-    t.0,
-    t.1,
-    omega (arith, c.loop-window.invariant.3, c.in-Bytes.ensures.later),
-    λ enough. absurd (omega (arith, short, (c.loop-window.invariant.4 enough).0)))
+    let t = took filled hand' image image' c.args.len c.loop-window.invariant.1 c.in-Ok-take_front.ensures.image c.in-Ok-take_front.ensures.window in (
+      joins_moved a filled hand' image image' left' (min (c.args.len - length image) (length filled)) (joins_read a hand filled image left left' c.loop-window.invariant.0 same) c.in-Ok-take_front.ensures.image c.in-Ok-take_front.ensures.window,
+      t.0,
+      t.1,
+      omega (arith, c.loop-window.invariant.3, c.in-Bytes.ensures.later),
+      λ enough. absurd (omega (arith, short, (c.loop-window.invariant.4 enough).0)),
+    )
