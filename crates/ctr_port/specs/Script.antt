@@ -37,3 +37,13 @@ abbrev pub put_of : Option ℕ → Put
 put_of None = put.Failed
 put_of (Some zero) = put.Failed
 put_of (Some (suc n)) = put.Took (suc n)
+
+-- a count of faults after a call: one more where it failed, and the same where it didn't
+abbrev pub reads_failed : Got → ℕ → ℕ
+reads_failed got.Failed faults = min (faults + 1) (2 ^ 64 - 1)
+reads_failed (got.Bytes n) faults = faults
+reads_failed got.End faults = faults
+
+abbrev pub writes_failed : Put → ℕ → ℕ
+writes_failed put.Failed faults = min (faults + 1) (2 ^ 64 - 1)
+writes_failed (put.Took n) faults = faults

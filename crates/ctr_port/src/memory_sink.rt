@@ -2,7 +2,7 @@
 ghost use Rattle.std.specs.Prelude.{◌≡◌, ℕ, ◌<◌, ◌≤◌, ◌-◌, [], ◌++◌, All, take, length, min, IfOk};
 ghost use Rattle.ctr_port.specs.Counts.{Rose};
 ghost use Rattle.ctr_port.specs.Appended.{TakesFront};
-ghost use Rattle.ctr_port.specs.Script.{limit, after, put_of};
+ghost use Rattle.ctr_port.specs.Script.{limit, after, put_of, writes_failed};
 
 use crate::ends::{NoMemory, Put};
 use crate::script::Script;
@@ -74,6 +74,7 @@ impl Sink for MemSink {
         ensures cause { result ≡ Put.Failed → Rose (sink_faults self.old) (sink_faults self.new) }
         ensures exact { result ≡ put_of (limit (sink_plan self.old) (min (length piece.now) (room_of self.old))) }
         ensures plan { sink_plan self.new ≡ after (sink_plan self.old) }
+        ensures count { sink_faults self.new ≡ writes_failed result (sink_faults self.old) }
     {
         let room = self.bytes.len() - self.len;
         match self.script.next(room.min(piece.len())) {

@@ -1,8 +1,8 @@
 // A source over bytes in memory.
-ghost use Rattle.std.specs.Prelude.{◌≡◌, ℕ, ◌<◌, ◌≤◌, [], Some, None, All, drop, length, min, IfOk};
+ghost use Rattle.std.specs.Prelude.{◌≡◌, ℕ, ◌<◌, ◌≤◌, Some, None, All, drop, length, min, IfOk};
 ghost use Rattle.ctr_port.specs.Counts.{Rose};
 ghost use Rattle.ctr_port.specs.Given.{GivesNext};
-ghost use Rattle.ctr_port.specs.Script.{limit, after, got_of};
+ghost use Rattle.ctr_port.specs.Script.{limit, after, got_of, reads_failed};
 
 use crate::ends::{Got, NoMemory};
 use crate::script::Script;
@@ -20,7 +20,6 @@ pub struct MemSource {
     script: Script,
     faults: u64,
     ghost within: { at ≤ length bytes.items },
-    ghost honest: { script.failing ≡ [] → faults ≡ 0 },
 }
 
 impl MemSource {
@@ -61,6 +60,7 @@ impl Source for MemSource {
         ensures cause { result ≡ Got.Failed → Rose (source_faults self.old) (source_faults self.new) }
         ensures exact { result ≡ got_of (limit (source_plan self.old) (min (length buf.old) (length (left_of self.old)))) }
         ensures plan { source_plan self.new ≡ after (source_plan self.old) }
+        ensures count { source_faults self.new ≡ reads_failed result (source_faults self.old) }
     {
         let left = self.bytes.len() - self.at;
         match self.script.next(left.min(buf.len())) {

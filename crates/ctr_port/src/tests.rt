@@ -96,10 +96,10 @@ struct OneAtATime {
 
 impl Write for OneAtATime {
     fn write(&mut self, buf: &[u8]) -> IoResult<usize> {
-        if self.len == 4 || buf.is_empty() {
+        if self.len >= 4 || buf.is_empty() {
             return Ok(0);
         }
-        self.held[self.len % 4] = buf[0];
+        self.held[self.len] = buf[0];
         self.len += 1;
         Ok(1)
     }

@@ -28,7 +28,8 @@ const IRQ: u64 = 12;
 /// (RISC-V Control Transfer Records 1.0, transfer types), which is below 16.
 pub fn perf_type(kind: u8) -> u64
     requires { kind < 16 }
-    ensures { result ≡ perf_type_of kind }
+    ensures value { result ≡ perf_type_of kind }
+    ensures below { result < 16 }
 {
     match kind {
         1 => SYSCALL,

@@ -1,0 +1,7 @@
+pub mod Field
+pub mod Sext
+pub mod Mask
+pub mod FieldBits
+pub mod FieldLaws
+pub mod MaskLaws
+pub mod MaskBits

@@ -1,0 +1,105 @@
+-- The history of a record buffer: what changed it, the oldest event first; and what it holds after a history.
+use Rattle.std.specs.Prelude.{ℕ, ◌+◌, ◌-◌, ◌*◌, ◌%◌, ◌≡◌, ◌≢◌, ◌<◌, Bool, true, false, List, [], ◌∷◌, cond, count_by, fold}
+use Rattle.std.specs.List.{list_any}
+use Rattle.ctr_csrs.specs.declared.depth.Depth.{Depth}
+use Rattle.ctr_csrs.specs.declared.depth.Depth.TheVariants.{D16}
+use Rattle.ctr_csrs.specs.Depths.{entries_of}
+use Rattle.ctr_buffer.specs.declared.event.Event.{Event}
+use Rattle.ctr_buffer.specs.declared.event.Event.TheVariants.{Push, Swap, Pop, Clear, SetDepth, Turn, Poke}
+use Rattle.ctr_buffer.specs.declared.event.Part.{Part}
+use Rattle.ctr_buffer.specs.declared.event.Part.TheVariants.{Source, Target, Kind}
+use Rattle.ctr_buffer.specs.Entry.{Entry}
+use Rattle.ctr_buffer.specs.Stack.{Stack, size_of, empty, pushed, popped, swapped, cleared, turned, poked, entry_at}
+
+-- an entry with one part replaced
+abbrev pub with_part : Entry → Part → ℕ → Entry
+with_part e Source value = record { source = value; target = e.target; kind = e.kind }
+with_part e Target value = record { source = e.source; target = value; kind = e.kind }
+with_part e Kind value = record { source = e.source; target = e.target; kind = value }
+
+-- what a stack becomes by an event
+abbrev pub after : Stack → Event → Stack
+after s (Push e) = pushed s e
+after s (Swap e) = swapped s e
+after s Pop = popped s
+after s Clear = cleared s
+after s (SetDepth depth) = empty depth
+after s (Turn w) = turned s w
+after s (Poke i part value) = poked s i (with_part (entry_at s i) part value)
+
+-- a history begins with the depth
+abbrev pub IsHistory : List Event → Type 0
+IsHistory [] = ⊥
+IsHistory (SetDepth _ ∷ _) = Unit {0}
+IsHistory (_ ∷ _) = ⊥
+
+-- what the buffer holds after a history
+abbrev pub stack_of : List Event → Stack
+stack_of history = fold after (empty D16) history
+
+-- the depth of the last SetDepth, or the given one where there is none
+abbrev pub deep_from : Depth → List Event → Depth
+deep_from depth [] = depth
+deep_from depth (SetDepth deeper ∷ later) = deep_from deeper later
+deep_from depth (_ ∷ later) = deep_from depth later
+
+-- whether an event sets the pointer, and where
+abbrev pub sets_pointer : Event → Bool
+sets_pointer (SetDepth _) = true
+sets_pointer (Turn _) = true
+sets_pointer _ = false
+
+abbrev pub place_set : ℕ → Event → ℕ
+place_set start (SetDepth _) = 0
+place_set start (Turn w) = w
+place_set start _ = start
+
+-- where the pointer was set last, or the given place where no event sets it
+abbrev pub set_from : ℕ → List Event → ℕ
+set_from start [] = start
+set_from start (e ∷ later) = cond (list_any sets_pointer later) (set_from start later) (place_set start e)
+
+-- the events after the last that sets the pointer
+abbrev pub since : List Event → List Event
+since [] = []
+since (e ∷ later) = cond (list_any sets_pointer later) (since later) (cond (sets_pointer e) later (e ∷ later))
+
+abbrev pub is_push : Event → Bool
+is_push (Push _) = true
+is_push _ = false
+
+abbrev pub is_pop : Event → Bool
+is_pop Pop = true
+is_pop _ = false
+
+-- modulo the depth: a place, plus the pushes, less the pops, each of which counts as one less than the depth
+abbrev pub counted : ℕ → ℕ → List Event → ℕ
+counted size place events = (place + count_by is_push events + (size - 1) * count_by is_pop events) % size
+
+-- the pointer after a history, counted from its events
+abbrev pub pointer_from : Depth → ℕ → List Event → ℕ
+pointer_from depth start history = counted (entries_of (deep_from depth history)) (set_from start history) (since history)
+
+abbrev pub deep_of : List Event → Depth
+deep_of history = deep_from D16 history
+
+abbrev pub pointer_of : List Event → ℕ
+pointer_of history = pointer_from D16 0 history
+
+-- a value that a part of an entry can hold
+abbrev pub FitsPart : Part → ℕ → Type 0
+FitsPart Source value = Unit {0}
+FitsPart Target value = value % 2 ≡ 0
+FitsPart Kind value = value < 16
+
+-- an event that a stack can take: another depth, a pointer and an index below the depth, a value that its part can hold
+abbrev pub CanTake : Stack → Event → Type 0
+CanTake s (SetDepth depth) = entries_of depth ≢ size_of s
+CanTake s (Turn w) = w < size_of s
+CanTake s (Poke i part value) = (i < size_of s) × FitsPart part value
+CanTake s _ = Unit {0}
+
+-- events that a stack can take one after another
+abbrev pub CanTakeAll : Stack → List Event → Type 0
+CanTakeAll s [] = Unit {0}
+CanTakeAll s (e ∷ later) = CanTake s e × CanTakeAll (after s e) later

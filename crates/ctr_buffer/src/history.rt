@@ -1,0 +1,84 @@
+ghost use Rattle.std.specs.Prelude.{◌≡◌, ◌<◌, List, [], ◌∷◌, ◌++◌, fold};
+ghost use Rattle.ctr_buffer.specs.History.{after, stack_of, deep_of, pointer_of, with_part, FitsPart, CanTake, CanTakeAll};
+ghost use Rattle.ctr_buffer.specs.Stack.{IsStack, empty};
+ghost use Rattle.ctr_buffer.specs.declared.event.Event.{Event};
+ghost use Rattle.ctr_buffer.specs.declared.event.Event.TheVariants.{SetDepth};
+
+use crate::event::{Event, Part};
+use crate::slot::Slot;
+use crate::store::CtrStore;
+use ctr_csrs::Depth;
+
+// The slot with one part replaced.
+fn with_part(slot: Slot, part: Part, value: u64) -> Slot
+    requires { FitsPart part value }
+    ensures { result ≡ with_part slot part value }
+{
+    match part {
+        Part::Source => Slot {
+            source: value,
+            target: slot.target,
+            kind: slot.kind,
+        },
+        Part::Target => Slot {
+            source: slot.source,
+            target: value,
+            kind: slot.kind,
+        },
+        Part::Kind => Slot {
+            source: slot.source,
+            target: slot.target,
+            kind: value as u8,
+        },
+    }
+}
+
+/// Makes the call of an event.
+pub fn perform<B: CtrStore>(store: &mut B, event: Event)
+    requires { CanTake (B.means store.old) event }
+    ensures { B.means store.new ≡ after (B.means store.old) event }
+{
+    match event {
+        Event::Push(slot) => store.push(slot),
+        Event::Swap(slot) => store.swap(slot),
+        Event::Pop => store.pop(),
+        Event::Clear => store.clear(),
+        Event::SetDepth(depth) => store.set_depth(depth),
+        Event::Turn(w) => store.set_wrptr(w),
+        Event::Poke(i, part, value) => {
+            let slot = with_part(store.slot(i), part, value);
+            store.set_slot(i, slot);
+        }
+    }
+}
+
+/// Makes the call of each event, the oldest first.
+pub fn perform_all<B: CtrStore>(store: &mut B, events: &[Event])
+    requires { CanTakeAll (B.means store.old) events.now }
+    ensures { B.means store.new ≡ fold after (B.means store.old) events.now }
+{
+    for event in events {
+        perform(store, *event);
+    }
+}
+
+/// The store that a history leaves: one of this depth, then the call of each later event, the oldest first.
+pub fn replay<B: CtrStore>(depth: Depth, later: &[Event]) -> B
+    requires { CanTakeAll (empty depth) later.now }
+    ensures stack { B.means result ≡ stack_of (SetDepth depth ∷ later.now) }
+    ensures pointer { (B.means result).pointer ≡ pointer_of (SetDepth depth ∷ later.now) }
+    ensures depth { (B.means result).depth ≡ deep_of (SetDepth depth ∷ later.now) }
+{
+    let mut store = B::fresh(depth);
+    perform_all(&mut store, later);
+    history_laws();
+    store
+}
+
+/// Laws of histories, of every list of events: a proof and no work.
+pub fn history_laws()
+    ensures newest { (history : List Event) (e : Event) → stack_of (history ++ e ∷ []) ≡ after (stack_of history) e }
+    ensures depth_is_the_last { (history : List Event) → (stack_of history).depth ≡ deep_of history }
+    ensures pointer_is_counted { (history : List Event) → (stack_of history).pointer ≡ pointer_of history }
+    ensures shape { (history : List Event) → IsStack (stack_of history) }
+{}

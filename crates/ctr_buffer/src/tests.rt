@@ -1,0 +1,193 @@
+ghost use Rattle.std.specs.Prelude.{◌<◌};
+
+use super::*;
+use ctr_csrs::{Depth, entries};
+
+// A slot that is told from the others by its source word, 2n + 1.
+fn slot(n: u64) -> Slot
+    requires { n < 1000 }
+{
+    Slot {
+        source: 2 * n + 1,
+        target: 2 * n,
+        kind: 8,
+    }
+}
+
+#[test]
+fn a_push_comes_first_and_the_oldest_is_lost_at_the_depth(rt: HostRuntime) {
+    for depth in [Depth::D16, Depth::D32, Depth::D64, Depth::D128, Depth::D256] {
+        let mut store: ListStore = CtrStore::fresh(depth);
+        let size = entries(depth);
+        assert_eq!(rt; store.depth(), depth);
+        for n in 0..=u64::from(size) {
+            store.push(slot(n));
+        }
+        assert!(rt; size == entries(store.depth()));
+        assert_eq!(rt;
+            store.slot(0),
+            slot(u64::from(size)),
+            "the youngest at {depth:?}"
+        );
+        assert_eq!(rt; store.slot(size - 1), slot(1), "the oldest at {depth:?}");
+        assert_eq!(rt; store.wrptr(), 1, "one more than the depth, at {depth:?}");
+    }
+}
+
+#[test]
+fn a_write_of_the_pointer_makes_another_slot_the_youngest(rt: HostRuntime) {
+    let mut store: ListStore = CtrStore::fresh(Depth::D16);
+    store.push(slot(1));
+    store.push(slot(2));
+    store.set_wrptr(1);
+    assert_eq!(rt; store.slot(0), slot(1), "the first that was pushed");
+    assert_eq!(rt; store.slot(15), slot(2), "the second");
+    assert_eq!(rt; store.wrptr(), 1);
+    store.set_depth(Depth::D16);
+    assert_eq!(rt; store.slot(0), slot(1), "the same depth changes nothing");
+    store.set_depth(Depth::D32);
+    assert_eq!(rt; store.wrptr(), 0);
+    for i in 0..32 {
+        assert!(rt; i < entries(store.depth()));
+        assert_eq!(rt; store.slot(i), Slot::default(), "slot {i} of another depth");
+    }
+}
+
+// For each pointer before (a line) and after (a place in it) at depth 16, the slot that becomes the youngest. Worked out
+// by a script of its own: (before - after) modulo 16.
+const YOUNGEST: [[u8; 16]; 16] = [
+    [0, 15, 14, 13, 12, 11, 10, 9, 8, 7, 6, 5, 4, 3, 2, 1],
+    [1, 0, 15, 14, 13, 12, 11, 10, 9, 8, 7, 6, 5, 4, 3, 2],
+    [2, 1, 0, 15, 14, 13, 12, 11, 10, 9, 8, 7, 6, 5, 4, 3],
+    [3, 2, 1, 0, 15, 14, 13, 12, 11, 10, 9, 8, 7, 6, 5, 4],
+    [4, 3, 2, 1, 0, 15, 14, 13, 12, 11, 10, 9, 8, 7, 6, 5],
+    [5, 4, 3, 2, 1, 0, 15, 14, 13, 12, 11, 10, 9, 8, 7, 6],
+    [6, 5, 4, 3, 2, 1, 0, 15, 14, 13, 12, 11, 10, 9, 8, 7],
+    [7, 6, 5, 4, 3, 2, 1, 0, 15, 14, 13, 12, 11, 10, 9, 8],
+    [8, 7, 6, 5, 4, 3, 2, 1, 0, 15, 14, 13, 12, 11, 10, 9],
+    [9, 8, 7, 6, 5, 4, 3, 2, 1, 0, 15, 14, 13, 12, 11, 10],
+    [10, 9, 8, 7, 6, 5, 4, 3, 2, 1, 0, 15, 14, 13, 12, 11],
+    [11, 10, 9, 8, 7, 6, 5, 4, 3, 2, 1, 0, 15, 14, 13, 12],
+    [12, 11, 10, 9, 8, 7, 6, 5, 4, 3, 2, 1, 0, 15, 14, 13],
+    [13, 12, 11, 10, 9, 8, 7, 6, 5, 4, 3, 2, 1, 0, 15, 14],
+    [14, 13, 12, 11, 10, 9, 8, 7, 6, 5, 4, 3, 2, 1, 0, 15],
+    [15, 14, 13, 12, 11, 10, 9, 8, 7, 6, 5, 4, 3, 2, 1, 0],
+];
+
+// The slots that follow each other, twice round.
+const ROUND: [u8; 32] = [
+    0, 1, 2, 3, 4, 5, 6, 7, 8, 9, 10, 11, 12, 13, 14, 15, 0, 1, 2, 3, 4, 5, 6, 7, 8, 9, 10, 11, 12,
+    13, 14, 15,
+];
+
+#[test]
+fn every_pair_of_pointers_turns_sixteen_slots_by_the_table(rt: HostRuntime) {
+    for before in 0..16 {
+        for after in 0..16 {
+            let mut store: ListStore = CtrStore::fresh(Depth::D16);
+            assert!(rt; u16::from(before) < entries(store.depth()));
+            store.set_wrptr(before);
+            for n in 0..16 {
+                assert!(rt; n < entries(store.depth()));
+                store.set_slot(n, slot(u64::from(n)));
+            }
+            assert!(rt; u16::from(after) < entries(store.depth()));
+            store.set_wrptr(after);
+            assert_eq!(rt; store.wrptr(), after);
+            for i in 0..16 {
+                let at = usize::from(YOUNGEST[usize::from(before)][usize::from(after)])
+                    + usize::from(i);
+                assert!(rt; i < entries(store.depth()) && at < 32);
+                let want = slot(u64::from(ROUND[at]));
+                assert_eq!(rt; store.slot(i), want, "slot {i} from {before} to {after}");
+            }
+        }
+    }
+}
+
+#[test]
+fn the_greatest_depth_turns_at_its_ends(rt: HostRuntime) {
+    for (before, after, youngest, oldest) in [
+        (0, 0, 0, 255),
+        (255, 255, 0, 255),
+        (0, 255, 1, 0), // back over the end
+        (255, 0, 255, 254), // on over the end
+        (1, 0, 1, 0),
+        (0, 1, 255, 254),
+        (255, 1, 254, 253),
+        (1, 255, 2, 1),
+        (128, 0, 128, 127),
+    ] {
+        let mut store: ListStore = CtrStore::fresh(Depth::D256);
+        assert!(rt; u16::from(before) < entries(store.depth()));
+        store.set_wrptr(before);
+        for n in 0..256 {
+            assert!(rt; n < entries(store.depth()));
+            store.set_slot(n, slot(u64::from(n)));
+        }
+        assert!(rt; u16::from(after) < entries(store.depth()));
+        store.set_wrptr(after);
+        assert!(rt; entries(store.depth()) == 256);
+        assert_eq!(rt;
+            store.slot(0),
+            slot(youngest),
+            "the youngest from {before} to {after}"
+        );
+        assert_eq!(rt;
+            store.slot(255),
+            slot(oldest),
+            "the oldest from {before} to {after}"
+        );
+    }
+}
+
+#[test]
+fn a_history_leaves_what_its_events_say(rt: HostRuntime) {
+    let history = [
+        Event::Push(slot(1)),
+        Event::Push(slot(2)),
+        Event::Push(slot(3)),
+        Event::Pop, // slot 3 goes to the end without V
+        Event::Swap(slot(4)), // in the place of slot 2
+        Event::Poke(1, Part::Source, 0x10), // slot 1 loses V and gets another address
+        Event::Poke(1, Part::Target, 0x20),
+        Event::Poke(1, Part::Kind, 15),
+    ];
+    let store: ListStore = replay(Depth::D16, &history);
+    assert!(rt; entries(store.depth()) == 16);
+    let poked = Slot {
+        source: 0x10,
+        target: 0x20,
+        kind: 15,
+    };
+    let popped = Slot {
+        source: 6,
+        target: 6,
+        kind: 8,
+    };
+    for (i, want, what) in [
+        (0, slot(4), "the swap"),
+        (1, poked, "each part that was poked"),
+        (2, Slot::default(), "nothing else was recorded"),
+        (14, Slot::default(), "nor here"),
+        (15, popped, "what was popped, with V cleared"),
+    ] {
+        assert_eq!(rt; store.slot(i), want, "{what}");
+    }
+    assert_eq!(rt; store.wrptr(), 2, "three pushes less one pop");
+}
+
+#[test]
+fn clearing_keeps_the_pointer_and_another_depth_does_not(rt: HostRuntime) {
+    let history = [Event::Push(slot(1)), Event::Push(slot(2)), Event::Clear];
+    let mut store: ListStore = replay(Depth::D16, &history);
+    assert_eq!(rt; store.wrptr(), 2);
+    assert!(rt; entries(store.depth()) == 16);
+    assert_eq!(rt; store.slot(0), Slot::default());
+    perform_all(&mut store, &[Event::Turn(9), Event::Pop]);
+    assert_eq!(rt; store.wrptr(), 8, "one less than where the turn set it");
+    perform(&mut store, Event::SetDepth(Depth::D256));
+    perform(&mut store, Event::Pop);
+    assert_eq!(rt; store.wrptr(), 255, "one less than 0, modulo 256");
+    history_laws();
+}

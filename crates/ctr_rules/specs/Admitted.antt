@@ -1,0 +1,51 @@
+-- What a transfer does to the records.
+use Rattle.std.specs.Prelude.{ℕ, ◌≡◌, ◌%◌, Bool, cond, not, ◌&&◌, Option, Some, None}
+use Rattle.ctr_csrs.specs.declared.control_bit.ControlBit.TheVariants.{Rasemu}
+use Rattle.ctr_csrs.specs.ControlFigure.{is_on}
+use Rattle.ctr_rules.specs.declared.transfer.Act.{Act}
+use Rattle.ctr_rules.specs.declared.transfer.Act.TheVariants.{Nothing, Push, Swap, Freeze}
+use Rattle.ctr_rules.specs.declared.transfer.Transfer.{Transfer}
+use Rattle.ctr_rules.specs.Enabled.{enables, trap_enabled}
+use Rattle.ctr_rules.specs.FilterBits.{filter_of, inhibits}
+use Rattle.ctr_rules.specs.FreezeBits.{freezes}
+use Rattle.ctr_rules.specs.RowTable.{Row, EmulatedCall, EmulatedReturn, EmulatedSwap, Within, TrapIn, ReturnOut, TrapOut, View, fits, act_of}
+
+-- what the rows look at
+abbrev pub view_of : Transfer → ℕ → ℕ → View
+view_of t m vs = record {
+  from = enables m vs t.from;
+  to = enables m vs t.to;
+  emulation = is_on (filter_of t m vs) Rasemu;
+  kind = t.kind;
+  let_in = not (inhibits (filter_of t m vs) t.kind);
+  enabled = trap_enabled t.from t.to m vs;
+}
+
+-- whether a row holds: only where FROZEN is clear and the transfer doesn't set it
+abbrev pub holds : Row → Transfer → ℕ → ℕ → Bool → Bool
+holds row t m vs frozen = not frozen && not (freezes t m vs) && fits row (view_of t m vs)
+
+-- the row that fits, or None
+abbrev pub row_of : View → Option Row
+row_of v =
+    cond (fits EmulatedCall v) (Some EmulatedCall)
+    (cond (fits EmulatedReturn v) (Some EmulatedReturn)
+    (cond (fits EmulatedSwap v) (Some EmulatedSwap)
+    (cond (fits Within v) (Some Within)
+    (cond (fits TrapIn v) (Some TrapIn)
+    (cond (fits ReturnOut v) (Some ReturnOut)
+    (cond (fits TrapOut v) (Some TrapOut) None))))))
+
+abbrev pub act_by : Option Row → Transfer → Act
+act_by (Some row) t = act_of row t
+act_by None t = Nothing
+
+-- Nothing where FROZEN is set, else Freeze where the transfer sets it, else the act of the row that fits, if there is one
+abbrev pub admitted : Transfer → ℕ → ℕ → Bool → Act
+admitted t m vs frozen = cond frozen Nothing (cond (freezes t m vs) Freeze (act_by (row_of (view_of t m vs)) t))
+
+-- the addresses that an act records are multiples of 2
+abbrev pub IsEven : Act → Type 0
+IsEven (Push r) = (r.source % 2 ≡ 0) × (r.target % 2 ≡ 0)
+IsEven (Swap r) = (r.source % 2 ≡ 0) × (r.target % 2 ≡ 0)
+IsEven _ = Unit {0}

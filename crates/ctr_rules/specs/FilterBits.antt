@@ -1,0 +1,28 @@
+-- The filter bits (RISC-V Control Transfer Records 1.0, "Transfer Type Filtering").
+use Rattle.std.specs.Prelude.{ℕ, Bool, cond, not, ◌||◌}
+use Rattle.ctr_csrs.specs.declared.control_bit.ControlBit.TheVariants as bits
+use Rattle.ctr_csrs.specs.ControlFigure.{is_on}
+use Rattle.ctr_csrs.specs.Modes.{is_virtual}
+use Rattle.ctr_rules.specs.declared.transfer.Transfer.{Transfer}
+use Rattle.xfer_class.specs.declared.types.XferType.{XferType}
+use Rattle.xfer_class.specs.declared.types.XferType.TheVariants as kinds
+
+-- the register whose filter bits and RASEMU count: vsctrctl where the transfer begins or ends with V=1, else mctrctl
+abbrev pub filter_of : Transfer → ℕ → ℕ → ℕ
+filter_of t m vs = cond (is_virtual t.from || is_virtual t.to) vs m
+
+-- whether a register keeps a transfer type out: NTBREN lets in, all other bits inhibit
+abbrev pub inhibits : ℕ → XferType → Bool
+inhibits word kinds.Exception = is_on word bits.Excinh
+inhibits word kinds.Interrupt = is_on word bits.Intrinh
+inhibits word kinds.TrapReturn = is_on word bits.Tretinh
+inhibits word kinds.NotTaken = not (is_on word bits.Ntbren)
+inhibits word kinds.Taken = is_on word bits.Tkbrinh
+inhibits word kinds.IndirectCall = is_on word bits.Indcallinh
+inhibits word kinds.DirectCall = is_on word bits.Dircallinh
+inhibits word kinds.IndirectJump = is_on word bits.Indjmpinh
+inhibits word kinds.DirectJump = is_on word bits.Dirjmpinh
+inhibits word kinds.Swap = is_on word bits.Corswapinh
+inhibits word kinds.Return = is_on word bits.Retinh
+inhibits word kinds.IndirectLinkJump = is_on word bits.Indljmpinh
+inhibits word kinds.DirectLinkJump = is_on word bits.Dirljmpinh

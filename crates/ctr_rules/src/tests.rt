@@ -1,0 +1,277 @@
+use super::*;
+use ctr_csrs::{Control, Mode, legal_m, legal_vs};
+use xfer_class::XferType;
+
+// A transfer from 0x1000 to 0x2000 that freezes nothing.
+fn transfer(from: Mode, to: Mode, kind: XferType) -> Transfer {
+    Transfer {
+        from,
+        to,
+        kind,
+        source: 0x1000,
+        target: 0x2000,
+        breakpoint: false,
+        lcofi: false,
+    }
+}
+
+fn record(source: u64, target: u64, kind: XferType) -> Record {
+    Record {
+        source,
+        target,
+        kind,
+    }
+}
+
+// Each type with its filter bit, by the register figure of mctrctl.
+const FILTERS: [(XferType, u64); 13] = [
+    (XferType::Exception, 0x2_0000_0000),
+    (XferType::Interrupt, 0x4_0000_0000),
+    (XferType::TrapReturn, 0x8_0000_0000),
+    (XferType::NotTaken, 0x10_0000_0000), // NTBREN, which lets in
+    (XferType::Taken, 0x20_0000_0000),
+    (XferType::IndirectCall, 0x100_0000_0000),
+    (XferType::DirectCall, 0x200_0000_0000),
+    (XferType::IndirectJump, 0x400_0000_0000),
+    (XferType::DirectJump, 0x800_0000_0000),
+    (XferType::Swap, 0x1000_0000_0000),
+    (XferType::Return, 0x2000_0000_0000),
+    (XferType::IndirectLinkJump, 0x4000_0000_0000),
+    (XferType::DirectLinkJump, 0x8000_0000_0000),
+];
+
+// All filter bits, and U, S and M.
+const ALL: u64 = 0xFF3E_0000_0007;
+
+// The filter bits with which every type is recorded: NTBREN alone.
+const LET_IN: u64 = 0x10_0000_0007;
+
+#[test]
+fn each_filter_bit_keeps_its_own_type_out_and_no_other(rt: HostRuntime) {
+    for (kind, bit) in FILTERS {
+        let jump = transfer(Mode::M, Mode::M, kind);
+        let whole = Act::Push(record(0x1000, 0x2000, kind));
+        let out = Act::Nothing;
+        let lets_in = kind == XferType::NotTaken;
+        let vs = legal_vs(0);
+        assert_eq!(rt;
+            act(jump, legal_m(LET_IN), vs, false),
+            whole,
+            "{kind:?} with NTBREN alone"
+        );
+        assert_eq!(rt;
+            act(jump, legal_m(LET_IN ^ bit), vs, false),
+            out,
+            "{kind:?} with its own bit changed"
+        );
+        let others = if lets_in { ALL } else { ALL & !bit };
+        assert_eq!(rt;
+            act(jump, legal_m(others), vs, false),
+            whole,
+            "{kind:?} with every other bit changed"
+        );
+        let guest = transfer(Mode::Vu, Mode::Vu, kind);
+        assert_eq!(rt;
+            act(guest, legal_m(ALL), legal_vs(LET_IN), false),
+            whole,
+            "{kind:?} in VU takes vsctrctl"
+        );
+        assert_eq!(rt;
+            act(guest, legal_m(LET_IN), legal_vs(LET_IN ^ bit), false),
+            out,
+            "{kind:?} in VU"
+        );
+    }
+}
+
+#[test]
+fn return_stack_emulation_takes_calls_returns_and_swaps_alone(rt: HostRuntime) {
+    // U and RASEMU; the filter bits count for nothing under it.
+    let m = legal_m(0xFF2E_0000_0081);
+    for (kind, _) in FILTERS {
+        let whole = record(0x1000, 0x2000, kind);
+        let want = match kind {
+            XferType::IndirectCall | XferType::DirectCall => Act::Push(whole),
+            XferType::Return => Act::Pop,
+            XferType::Swap => Act::Swap(whole),
+            _ => Act::Nothing,
+        };
+        let jump = transfer(Mode::U, Mode::U, kind);
+        assert_eq!(rt;
+            act(jump, m, legal_vs(0), false),
+            want,
+            "{kind:?} in an enabled mode"
+        );
+        assert_eq!(rt;
+            act(jump, legal_m(0x80), legal_vs(0), false),
+            Act::Nothing,
+            "{kind:?} in no enabled mode"
+        );
+    }
+    let trap = transfer(Mode::U, Mode::M, XferType::Exception);
+    assert_eq!(rt;
+        act(trap, legal_m(0x385), legal_vs(0), false),
+        Act::Nothing,
+        "no trap is recorded under it"
+    );
+}
+
+#[test]
+fn an_external_trap_needs_every_trap_enable_bit_of_its_modes(rt: HostRuntime) {
+    // STE is 0x100 and MTE 0x200 of mctrctl; STE of vsctrctl is 0x100 too. U is 1 and S is 2.
+    for (from, to, mode_m, mode_vs, need_m, need_vs) in [
+        (Mode::U, Mode::S, 1, 0, 0x100, 0),
+        (Mode::U, Mode::M, 1, 0, 0x300, 0),
+        (Mode::S, Mode::M, 2, 0, 0x200, 0),
+        (Mode::Vu, Mode::Vs, 0, 1, 0, 0x100),
+        (Mode::Vu, Mode::S, 0, 1, 0x100, 0x100),
+        (Mode::Vu, Mode::M, 0, 1, 0x300, 0x100),
+        (Mode::Vs, Mode::S, 0, 2, 0x100, 0),
+        (Mode::Vs, Mode::M, 0, 2, 0x300, 0),
+    ] {
+        for kind in [XferType::Exception, XferType::Interrupt] {
+            let trap = transfer(from, to, kind);
+            let seen = |bits_m: u64, bits_vs: u64| act(
+                trap,
+                legal_m(mode_m | bits_m),
+                legal_vs(mode_vs | bits_vs),
+                false,
+            );
+            let out = Act::Push(record(0x1000, 0, kind));
+            assert_eq!(rt;
+                seen(need_m, need_vs),
+                out,
+                "{from:?} to {to:?} with the bits needed"
+            );
+            for (bit_m, bit_vs) in [(0x100, 0), (0x200, 0), (0, 0x100)] {
+                let needed = need_m & bit_m != 0 || need_vs & bit_vs != 0;
+                let want = if needed { Act::Nothing } else { out };
+                let less = seen(0x300 & !bit_m, 0x100 & !bit_vs);
+                assert_eq!(rt;
+                    less,
+                    want,
+                    "{from:?} to {to:?} without {bit_m:x} and {bit_vs:x}"
+                );
+            }
+        }
+    }
+}
+
+#[test]
+fn an_address_of_a_mode_that_is_not_enabled_is_recorded_as_zero(rt: HostRuntime) {
+    let u = legal_m(0x1); // U alone
+    let m = legal_m(0x4); // M alone
+    let both = legal_m(0x5);
+    let none = legal_vs(0);
+    for (from, to, kind, control, want, what) in [
+        (
+            Mode::U,
+            Mode::M,
+            XferType::Exception,
+            m,
+            Act::Push(record(0, 0x2000, XferType::Exception)),
+            "a trap in",
+        ),
+        (
+            Mode::M,
+            Mode::U,
+            XferType::TrapReturn,
+            m,
+            Act::Push(record(0x1000, 0, XferType::TrapReturn)),
+            "a return out",
+        ),
+        (
+            Mode::M,
+            Mode::U,
+            XferType::TrapReturn,
+            u,
+            Act::Nothing,
+            "a return in isn't recorded",
+        ),
+        (
+            Mode::U,
+            Mode::M,
+            XferType::Exception,
+            both,
+            Act::Push(record(0x1000, 0x2000, XferType::Exception)),
+            "a trap within",
+        ),
+        (
+            Mode::S,
+            Mode::S,
+            XferType::DirectJump,
+            both,
+            Act::Nothing,
+            "S isn't enabled",
+        ),
+        (
+            Mode::Vs,
+            Mode::Vs,
+            XferType::DirectJump,
+            both,
+            Act::Nothing,
+            "nor is VS, by vsctrctl",
+        ),
+    ] {
+        assert_eq!(rt;
+            act(transfer(from, to, kind), control, none, false),
+            want,
+            "{what}"
+        );
+    }
+}
+
+#[test]
+fn a_trap_between_v_0_and_v_1_takes_the_filter_of_vsctrctl(rt: HostRuntime) {
+    let ecall = transfer(Mode::Vu, Mode::S, XferType::Exception);
+    let excinh = 0x2_0000_0000;
+    let in_vs = act(ecall, legal_m(2), legal_vs(excinh | 1), false);
+    assert_eq!(rt;
+        in_vs,
+        Act::Nothing,
+        "EXCINH of vsctrctl inhibits, though both modes are enabled"
+    );
+    let in_m = act(ecall, legal_m(excinh | 2), legal_vs(1), false);
+    assert_eq!(rt;
+        in_m,
+        Act::Push(record(0x1000, 0x2000, XferType::Exception)),
+        "EXCINH of mctrctl doesn't"
+    );
+}
+
+#[test]
+fn a_freeze_records_nothing_and_needs_no_enabled_mode(rt: HostRuntime) {
+    let breakpoint = XferType::Exception;
+    let overflow = XferType::Interrupt;
+    let bp = 0x800; // BPFRZ
+    let lc = 0x1000; // LCOFIFRZ
+    for (to, kind, bits_m, bits_vs, freezes) in [
+        (Mode::M, breakpoint, bp, 0, true),
+        (Mode::M, breakpoint, bp | 7, 0, true), // the trap isn't recorded either
+        (Mode::M, breakpoint, lc, 0, false),
+        (Mode::S, breakpoint, bp, 0, true),
+        (Mode::S, breakpoint, 0, bp, false), // vsctrctl counts for VS alone
+        (Mode::Vs, breakpoint, 0, bp, true),
+        (Mode::Vs, breakpoint, bp, 0, false),
+        (Mode::M, overflow, lc, 0, true),
+        (Mode::M, overflow, bp, 0, false),
+        (Mode::Vs, overflow, 0, lc, true),
+        (Mode::Vs, overflow, lc, 0, false),
+    ] {
+        let trap = Transfer {
+            breakpoint: kind == breakpoint,
+            lcofi: kind == overflow,
+            ..transfer(to, to, kind)
+        };
+        let m = legal_m(bits_m);
+        let vs = legal_vs(bits_vs);
+        let want = if freezes { Act::Freeze } else { Act::Nothing };
+        assert_eq!(rt; act(trap, m, vs, false), want, "{kind:?} to {to:?}");
+        assert_eq!(rt;
+            act(trap, m, vs, true),
+            Act::Nothing,
+            "{kind:?} to {to:?} while FROZEN is set"
+        );
+    }
+    row_laws();
+}

@@ -1,0 +1,50 @@
+//! The program: `ctrsim run` reads a schedule from standard input and writes samples to standard output.
+#![tactic(auto)]
+
+use ctr_port::{StdSink, StdSource, write_whole};
+use ctrsim_cli::ctrsim;
+use std::alloc::AllocError;
+use std::env;
+use std::io::BufReader;
+use std::process::ExitCode;
+
+// The arguments after the program's name.
+enum Words {
+    Are(Vec<String>),
+    NoMemory,
+    Unreadable,
+}
+
+fn words_of(rt: &HostRuntime) -> Words {
+    let Ok(mut args) = env::args(rt) else {
+        return Words::Unreadable;
+    };
+    let _program = args.next();
+    match args.collect(rt.alloc()) {
+        Ok(words) => Words::Are(words),
+        Err(AllocError) => Words::NoMemory,
+    }
+}
+
+// Says why the program can't begin, and ends with the status.
+fn stop(rt: &HostRuntime, text: &[u8], status: u8) -> ExitCode {
+    let mut notes = StdSink::new(rt.stderr());
+    let _ = write_whole(&mut notes, text);
+    ExitCode::from(status)
+}
+
+fn main(rt: HostRuntime) -> ExitCode {
+    let words = match words_of(&rt) {
+        Words::Are(words) => words,
+        Words::NoMemory => return stop(&rt, b"ctrsim: no memory\n", 7),
+        Words::Unreadable => return stop(&rt, b"ctrsim: cannot read arguments\n", 14),
+    };
+    let Ok(reader) = BufReader::new(rt.alloc(), rt.stdin()) else {
+        return stop(&rt, b"ctrsim: no memory\n", 7);
+    };
+    let mut source = StdSource::new(reader);
+    let mut sink = StdSink::new(rt.stdout());
+    let mut notes = StdSink::new(rt.stderr());
+    let outcome = ctrsim(rt.alloc(), &words, &mut source, &mut sink, &mut notes);
+    ExitCode::from(outcome.status)
+}

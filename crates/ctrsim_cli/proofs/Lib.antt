@@ -1,0 +1,7 @@
+mod Complete
+mod Cuts
+mod Decimals
+mod Digits
+mod Heard
+mod Pushes
+mod Runs

@@ -1,0 +1,13 @@
+pub mod Lines
+pub mod Numbers
+pub mod SmallForm
+pub mod State
+pub mod Effect
+pub mod Event
+pub mod Step
+pub mod Lone
+pub mod Sample
+pub mod Fault
+pub mod Form
+pub mod Ended
+pub mod Performed

@@ -1,0 +1,84 @@
+// The top call.
+ghost use Rattle.std.specs.Prelude.{◌≤◌, length};
+ghost use Rattle.ctrsim_cli.specs.Form.{schedule_of};
+ghost use Rattle.ctrsim_cli.specs.Performed.{Performed, Answered, Ran, Ends, ReadCause, WriteCause};
+ghost use Rattle.ctrsim_cli.specs.Ended.{IsRun};
+ghost use Rattle.std.specs.Bool.{OnTrue, OnFalse};
+
+use crate::fault::Fault;
+use crate::input::{ROOM, read_all};
+use crate::machine::Machine;
+use crate::sampling::write_sample;
+use crate::small_form::{Form, small_form};
+use ctr_port::{Sink, Source};
+use std::alloc::Global;
+
+// Runs a schedule and writes its sample.
+fn run_form<K: Sink>(alloc: Global, form: &Form<'_>, sink: &mut K) -> Option<Fault>
+    requires { length form.now.image.now ≤ form.now.mem }
+    ensures performed { Performed K.gained sink.old sink.new (schedule_of form.now) result }
+    ensures cause { WriteCause (K.faults sink.old) (K.faults sink.new) result }
+{
+    let Ok(mut machine) = Machine::new(alloc, form.image, form.mem) else {
+        return Some(Fault::Memory);
+    };
+    if let Err(step) = machine.run(form.steps) {
+        return Some(Fault::NotBuilt(step));
+    }
+    match write_sample(&machine, sink) {
+        Ok(()) => None,
+        Err(_) => Some(Fault::WriteFault),
+    }
+}
+
+// Does what a text says.
+fn answer<K: Sink>(alloc: Global, text: &[u8], sink: &mut K) -> Option<Fault>
+    ensures answered { Answered K.gained sink.old sink.new text.now result }
+    ensures cause { WriteCause (K.faults sink.old) (K.faults sink.new) result }
+{
+    match small_form(text) {
+        Some(form) => run_form(alloc, &form, sink),
+        None => Some(Fault::OtherForm),
+    }
+}
+
+// Reads a schedule of the small form from the source, runs it, and writes its sample to the sink.
+fn run<S: Source, K: Sink>(alloc: Global, source: &mut S, sink: &mut K) -> Option<Fault>
+    ensures ran { Ran (S.left source.old) (S.left source.new) K.gained sink.old sink.new result }
+    ensures read { ReadCause (S.faults source.old) (S.faults source.new) result }
+    ensures write { WriteCause (K.faults sink.old) (K.faults sink.new) result }
+{
+    let mut buf = [0; ROOM];
+    match read_all(source, &mut buf) {
+        Ok(count) => answer(alloc, &buf[..count], sink),
+        Err(fault) => Some(fault),
+    }
+}
+
+fn is_run(words: &[String]) -> bool
+    ensures yes { OnTrue result (IsRun words.now) }
+    ensures no { OnFalse result (IsRun words.now → ⊥) }
+{
+    match words {
+        [word] => word.as_str() == "run",
+        _ => false,
+    }
+}
+
+/// Does what the words ask for.
+pub fn command<S: Source, K: Sink>(
+    alloc: Global,
+    words: &[String],
+    source: &mut S,
+    sink: &mut K,
+) -> Option<Fault>
+    ensures ends { Ends words.now S.left source.old source.new K.gained sink.old sink.new result }
+    ensures read { ReadCause (S.faults source.old) (S.faults source.new) result }
+    ensures write { WriteCause (K.faults sink.old) (K.faults sink.new) result }
+{
+    if is_run(words) {
+        run(alloc, source, sink)
+    } else {
+        Some(Fault::Usage)
+    }
+}

@@ -1,0 +1,26 @@
+// How a call of the program ends.
+
+/// Why a call did not do all that it was asked to.
+#[derive(Clone, Copy, Debug, PartialEq, Eq)]
+pub enum Fault {
+    /// The words are none that the program knows.
+    Usage,
+    /// A read of the source failed.
+    ReadFault,
+    /// A write to the sink failed.
+    WriteFault,
+    /// No memory was found.
+    Memory,
+    /// The step with this number, counted from 0, isn't built.
+    NotBuilt(u64),
+    /// The input isn't a schedule of the small form.
+    OtherForm,
+}
+
+/// The exit status, and the fault that it stands for: 0 for none, 2 Usage, 3 ReadFault, 4 WriteFault, 7 Memory,
+/// 8 NotBuilt, 9 OtherForm.
+#[derive(Clone, Copy, Debug, PartialEq, Eq)]
+pub struct Outcome {
+    pub status: u8,
+    pub fault: Option<Fault>,
+}

@@ -1,0 +1,4 @@
+mod WordLemmas
+mod NumberLemmas
+mod PickLemmas
+mod ViewLemmas

@@ -1,0 +1,10 @@
+pub mod Words
+pub mod Fresh
+pub mod Registers
+pub mod Numbers
+pub mod Gate
+pub mod Traps
+pub mod Entry
+pub mod Returns
+pub mod Interrupts
+pub mod Views

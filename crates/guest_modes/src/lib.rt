@@ -1,0 +1,27 @@
+//! Privilege of a hart with the hypervisor extension: the registers of its software and who may reach them, traps and
+//! their delegation, interrupts and returns. Nothing here knows of control transfer records but their numbers.
+//!
+//! It stands on `ctr_csrs` and `ctr_bits`.
+#![tactic(auto)]
+
+pub use entering::enter_trap;
+pub use gating::{CsrFault, gate};
+pub use interrupts::pick_interrupt;
+pub use laws::privilege_laws;
+pub use numbered::{is_register, read_csr, write_csr};
+pub use registers::Priv;
+pub use returning::{Ret, leave_trap};
+pub use targets::{Trap, trap_target};
+
+mod entering;
+mod gating;
+mod interrupts;
+mod laws;
+mod masked;
+mod mstatus;
+mod numbered;
+mod registers;
+mod returning;
+mod targets;
+#[cfg(test)]
+mod tests;

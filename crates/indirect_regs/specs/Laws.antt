@@ -1,0 +1,37 @@
+-- Laws of accesses and of a monitor's door.
+use Rattle.std.specs.Prelude.{◌≡◌, ℕ, Ok}
+use Rattle.ctr_csrs.specs.declared.mode.Mode.{Mode}
+use Rattle.ctr_csrs.specs.declared.mode.Mode.TheVariants as modes
+use Rattle.guest_modes.specs.declared.registers.Priv.{Priv}
+use Rattle.indirect_regs.specs.declared.accessing.CsrUse.{CsrUse}
+use Rattle.indirect_regs.specs.declared.accessing.CsrUse.TheVariants.{Read, Write}
+use Rattle.indirect_regs.specs.declared.port.PortReg.{PortReg}
+use Rattle.indirect_regs.specs.declared.port.PortReg.TheVariants.{Mctrctl, Vsctrctl, Depth, Status, Select, From, To, Kind}
+use Rattle.indirect_regs.specs.Unit.{UnitState, after_any}
+use Rattle.indirect_regs.specs.Ports.{read, written, Selects}
+use Rattle.indirect_regs.specs.Access.{accessed}
+
+-- the number of a monitor's register: mctrctl, vsctrctl, sctrdepth, sctrstatus, siselect, sireg, sireg2 and sireg3
+abbrev pub number_of : PortReg → ℕ
+number_of Mctrctl = 0x34E
+number_of Vsctrctl = 0x24E
+number_of Depth = 0x15F
+number_of Status = 0x14F
+number_of Select = 0x150
+number_of From = 0x151
+number_of To = 0x152
+number_of Kind = 0x153
+
+-- a monitor reads and writes what an access in M reads and writes, which leaves the other registers
+pub record IsAccessInM (reg : PortReg) (u : UnitState) (p : Priv) (value : ℕ) : Type 0 where
+  pub reads : (accessed u p modes.M (number_of reg) Read).answer ≡ Ok (read reg u)
+  pub writes : (accessed u p modes.M (number_of reg) (Write value)).unit ≡ written reg value u
+  pub others : (accessed u p modes.M (number_of reg) (Write value)).registers ≡ p
+
+abbrev pub MonitorReachesAsM : Type 0
+MonitorReachesAsM = (reg : PortReg) (u : UnitState) (p : Priv) (value : ℕ) → Selects reg u → IsAccessInM reg u p value
+
+-- the record buffer after an access is what the event of the access makes of it
+abbrev pub EventsMakeTheBuffer : Type 0
+EventsMakeTheBuffer = (u : UnitState) (p : Priv) (mode : Mode) (csr : ℕ) (op : CsrUse) →
+    (accessed u p mode csr op).unit.stack ≡ after_any u.stack (accessed u p mode csr op).event

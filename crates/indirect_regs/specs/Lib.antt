@@ -1,0 +1,5 @@
+pub mod Unit
+pub mod Ports
+pub mod Table
+pub mod Access
+pub mod Laws

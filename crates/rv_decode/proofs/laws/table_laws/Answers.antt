@@ -1,0 +1,12 @@
+use Rattle.rv_decode.proofs.TableLemmas.{one_row, one_instr}
+use Rattle.rv_decode.proofs.NumberLemmas.{rows_fit}
+use Rattle.rv_decode.proofs.laws.table_laws.Goals as goal
+
+pub returns-clause-one_row : goal.returns-clause-one_row
+returns-clause-one_row c = one_row
+
+pub returns-clause-one_instr : goal.returns-clause-one_instr
+returns-clause-one_instr c = one_instr
+
+pub returns-clause-rows_fit : goal.returns-clause-rows_fit
+returns-clause-rows_fit c = rows_fit
