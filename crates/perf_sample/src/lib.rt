@@ -4,12 +4,14 @@
 #![tactic(auto)]
 
 mod branches;
+mod laws;
 mod layout;
 mod perf_types;
 mod sample;
 mod writing;
 
 pub use branches::Branches;
+pub use laws::no_proper_prefix;
 pub use layout::Layout;
 pub use perf_types::perf_type;
 pub use sample::{Branch, Sample};

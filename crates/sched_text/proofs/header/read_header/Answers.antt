@@ -1,0 +1,33 @@
+use Rattle.std.proofs.Common.{◌≡◌, ◌∙◌, ◌≤◌, ◌+◌, sym, ap, subst, Err, Result, arith}
+use Rattle.ctr_port.specs.InHand.{text_of, Of}
+use Rattle.sched_text.specs.Header.{start, lines_of, Sound}
+use Rattle.sched_text.specs.Heads.{OneLine}
+use Rattle.sched_text.specs.declared.heading.Progress.{Progress}
+use Rattle.sched_text.proofs.HeadLaws.{Came, came_none, came_more, came_stops}
+use Rattle.sched_text.proofs.header.read_header.Goals as goal
+
+pub loop-line-init : goal.loop-line-init
+loop-line-init g c =
+    let left = g.S.Source.left c.args.source.now in
+    let none = came_none c.args.window.now left in
+    rw (c.requires, c.new-progress.ensures.start) (none, omega arith, subst Sound c.new-progress.ensures.start c.new-progress.ensures.sound, omega arith, omega arith)
+
+pub loop-line-preserved : goal.loop-line-preserved
+loop-line-preserved g c =
+    let at0 = text_of c.args.window.now (g.S.Source.left c.args.source.now) in
+    let at1 = text_of c.loop-line.window (g.S.Source.left c.loop-line.source) in
+    let at2 = text_of c.one_line.new.window (g.S.Source.left c.one_line.new.source) in (
+      came_more at0 at1 at2 c.loop-line.line c.loop-line.progress c.one_line.new.progress c.loop-line.invariant.0 c.in-Ok.ensures.line,
+      omega (arith, c.in-Ok.ensures.count, c.loop-line.invariant.1),
+      c.in-Ok.ensures.sound,
+      c.in-Ok.ensures.few,
+      omega (arith, c.in-Ok.ensures.later, c.loop-line.invariant.4),
+    )
+
+pub returns-in-Err-clause-heads : goal.returns-in-Err-clause-heads
+returns-in-Err-clause-heads g c =
+    let at0 = text_of c.args.window.now (g.S.Source.left c.args.source.now) in
+    let at1 = text_of c.loop-line.window (g.S.Source.left c.loop-line.source) in
+    let at2 = text_of c.one_line.new.window (g.S.Source.left c.one_line.new.source) in
+    came_stops c.in-Err.fault at0 at1 at2 c.loop-line.line c.loop-line.progress c.one_line.new.progress c.one_line.new.window c.loop-line.invariant.0 (sym c.is_done.ensures ∙ c.loop-line-test.true)
+    (subst (OneLine (c.loop-line.line + 1) c.loop-line.progress c.one_line.new.progress at1 at2 c.one_line.new.window) c.in-Err.is c.one_line.ensures.line)

@@ -1,0 +1,22 @@
+-- What reads do to the bytes in hand.
+use Rattle.std.specs.Prelude.{◌≡◌, ℕ, ◌+◌, ◌<◌, ◌≤◌, List, ◌++◌, length, take, drop, Result, Ok, Err}
+use Rattle.std.specs.declared.option.Option.{Option}
+use Rattle.std.specs.Io.KnownBytes.{Consumes, Keeps, IsAtEnd}
+use Rattle.ctr_port.specs.declared.ends.Got.{Got}
+use Rattle.ctr_port.specs.declared.ends.Got.TheVariants as got
+use Rattle.sched_text.specs.Lines.{Line, Long, Open, line_at}
+use Rattle.sched_text.specs.declared.reading.Stop.{Stop}
+use Rattle.sched_text.specs.declared.reading.Stop.TheVariants as stop
+
+-- a read put the next bytes behind those in hand, found the end, or took nothing
+abbrev pub Fills : Option (List ℕ) → Option (List ℕ) → List ℕ → List ℕ → Got → Type 0
+Fills left left' hand hand' (got.Bytes n) = (piece : List ℕ) × (0 < length piece) × (hand' ≡ hand ++ piece) × Consumes left left' piece
+Fills left left' hand hand' got.End = (hand' ≡ hand) × Keeps left left' × IsAtEnd left'
+Fills left left' hand hand' got.Failed = (hand' ≡ hand) × Keeps left left'
+
+-- what is in hand after a line was looked for
+abbrev pub HasLine : List ℕ → Option (List ℕ) → Result ℕ Stop → Type 0
+HasLine hand left (Ok n) = (n < length hand) × (line_at hand ≡ Line (take n hand) (drop (n + 1) hand))
+HasLine hand left (Err stop.Long) = line_at hand ≡ Long
+HasLine hand left (Err stop.Cut) = (line_at hand ≡ Open) × IsAtEnd left
+HasLine hand left (Err stop.Failed) = line_at hand ≡ Open

@@ -1,0 +1,12 @@
+pub mod Lines
+pub mod Cuts
+pub mod Hand
+pub mod Numbers
+pub mod Rows
+pub mod Irqs
+pub mod Header
+pub mod Heads
+pub mod Images
+pub mod Commands
+pub mod Reader
+pub mod Text

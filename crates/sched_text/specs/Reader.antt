@@ -1,0 +1,76 @@
+-- What contracts see of a reader, and what its calls say.
+use Rattle.std.specs.Prelude.{◌≡◌, ◌⊎◌, ℕ, ◌+◌, if◌then◌else◌, List, [], Bool, false, Option, Some, None, Result, Ok, Err}
+use Rattle.ctr_port.specs.InHand.{text_of, Of}
+use Rattle.sched_text.specs.Lines.{LineCut, Line, Long, Open, line_at}
+use Rattle.sched_text.specs.Rows.{command_of}
+use Rattle.sched_text.specs.Commands.{is_end, end_at}
+use Rattle.sched_text.specs.declared.schedule.Command.{Command}
+use Rattle.sched_text.specs.declared.schedule.Command.TheVariants as command
+use Rattle.sched_text.specs.declared.faults.LineFault.{LineFault}
+use Rattle.sched_text.specs.declared.faults.CommandFault.{CommandFault}
+use Rattle.sched_text.specs.declared.faults.CommandFault.TheVariants as fault
+use Rattle.sched_text.specs.declared.faults.ScheduleFault.{ScheduleFault}
+use Rattle.sched_text.specs.declared.faults.ScheduleFault.TheVariants as schedule
+
+pub record Reader : Type 0 where
+  -- what was refused, if anything
+  pub refused : Option ScheduleFault
+  -- the number of the line last begun
+  pub line : ℕ
+  -- how many command lines came
+  pub commands : ℕ
+  -- `end` was answered
+  pub ended : Bool
+  -- the bytes in hand
+  pub hand : List ℕ
+
+-- the line of a text is `end`, and this follows it
+abbrev pub EndsAt : LineCut → List ℕ → Type 0
+EndsAt (Line line rest) text = (command_of line ≡ Ok command.End) × (rest ≡ text)
+EndsAt Long text = ⊥
+EndsAt Open text = ⊥
+
+-- a command is answered, or a line refused, as defined of the text. After a failed read no whole line is in hand, and nothing
+-- was passed over but the line `end`
+abbrev pub Shows : (List ℕ → Result (Command × List ℕ) LineFault) → Option (List ℕ) → Option (List ℕ) → List ℕ → Result Command CommandFault → Type 0
+Shows defined text text' hand (Ok command) = Of text text' (λ t t'. defined t ≡ Ok (command, t'))
+Shows defined text text' hand (Err (fault.Line f)) = Of text text' (λ t t'. defined t ≡ Err f)
+Shows defined text text' hand (Err fault.ReadFault) = (line_at hand ≡ Open) × Of text text' (λ t t'. (t' ≡ t) ⊎ EndsAt (line_at t) t')
+
+-- the fault of a command among those of the whole schedule
+abbrev pub widened : CommandFault → ScheduleFault
+widened (fault.Line f) = schedule.Line f
+widened fault.ReadFault = schedule.ReadFault
+
+abbrev pub refusal : Result Command CommandFault → Option ScheduleFault
+refusal (Ok command) = None
+refusal (Err f) = Some (widened f)
+
+-- nothing follows the line `end`, or something does. After a failed read nothing is in hand, and nothing was passed over
+abbrev pub Finishes : ℕ → Option (List ℕ) → Option (List ℕ) → List ℕ → Result (Unit {0}) CommandFault → Type 0
+Finishes line text text' hand (Ok _) = Of text text' (λ t t'. end_at line t ≡ Ok (command.End, t'))
+Finishes line text text' hand (Err (fault.Line f)) = Of text text' (λ t t'. end_at line t ≡ Err f)
+Finishes line text text' hand (Err fault.ReadFault) = (hand ≡ []) × Of text text' (λ t t'. t' ≡ t)
+
+-- the answer of a call that read the line `end`
+abbrev pub ended : Result (Unit {0}) CommandFault → Result Command CommandFault
+ended (Ok _) = Ok command.End
+ended (Err f) = Err f
+
+-- before the first line
+abbrev pub fresh : Reader
+fresh = record { refused = None; line = 0; commands = 0; ended = false; hand = [] }
+
+-- what is kept of an answer of `header` or `image`
+abbrev pub refusal_of : {A : Type 0} → Result A ScheduleFault → Option ScheduleFault
+refusal_of (Ok x) = None
+refusal_of (Err f) = Some f
+
+-- how many command lines came, after a call; `end` isn't counted
+abbrev pub counted : ℕ → Result Command CommandFault → ℕ
+counted count (Ok command) = if is_end command then count else count + 1
+counted count (Err f) = count
+
+abbrev pub ends_now : Result Command CommandFault → Bool
+ends_now (Ok command) = is_end command
+ends_now (Err f) = false

@@ -1,0 +1,108 @@
+-- What a single line says, by its words alone. The rules come in their order: NotWord, NotNumber, Range.
+use Rattle.std.specs.Prelude.{◌≡◌, ℕ, ◌-◌, ◌%◌, ◌^◌, ◌≤◌, Bool, true, ◌&&◌, ◌||◌, if◌then◌else◌, nat_eq, nat_lt, nat_le, List, length, Option, Some, None, Result, Ok, Err}
+use Rattle.std.specs.Str.{bytes_eq}
+use Rattle.sched_text.specs.Lines.{words, word}
+use Rattle.sched_text.specs.Numbers.{number, kept}
+use Rattle.perf_sample.specs.Layout.{is_layout}
+use Rattle.sched_text.specs.declared.faults.Reason.{Reason}
+use Rattle.sched_text.specs.declared.faults.Reason.TheVariants as reason
+use Rattle.sched_text.specs.declared.rows.TheConstants.{VERSION, HARTS, LAYOUT, TASK, IRQ, RUN, SAMPLE, EVICT, END}
+use Rattle.sched_text.specs.declared.rows.IrqWords.{IrqWords}
+use Rattle.sched_text.specs.declared.schedule.TaskLine.{TaskLine}
+use Rattle.sched_text.specs.declared.schedule.Command.{Command}
+use Rattle.sched_text.specs.declared.schedule.Command.TheVariants as command
+
+-- the line has this first word, and so many words
+abbrev pub has_form : List ℕ → List ℕ → ℕ → Bool
+has_form line first count = nat_eq (length (words line)) count && bytes_eq (word line 0) first
+
+abbrev pub then_with : {A B : Type 0} → Result A Reason → (A → Result B Reason) → Result B Reason
+then_with (Ok x) next = next x
+then_with (Err why) next = Err why
+
+abbrev pub or_not_number : Option ℕ → Result ℕ Reason
+or_not_number None = Err reason.NotNumber
+or_not_number (Some n) = Ok n
+
+abbrev pub decimal : List ℕ → ℕ → Result ℕ Reason
+decimal line place = or_not_number (number 10 (word line place))
+
+abbrev pub hexadecimal : List ℕ → ℕ → Result ℕ Reason
+hexadecimal line place = or_not_number (number 16 (word line place))
+
+-- ctr-schedule VERSION
+abbrev pub version_of : List ℕ → Result (Unit {0}) Reason
+version_of line =
+    if has_form line VERSION.now 2 then
+    then_with (decimal line 1) (λ version. if nat_eq version 1 then Ok tt else Err reason.Range)
+    else Err reason.NotWord
+
+-- harts N
+abbrev pub harts_of : List ℕ → Result ℕ Reason
+harts_of line =
+    if has_form line HARTS.now 2 then
+    then_with (decimal line 1) (λ harts. if nat_le 1 harts && nat_le harts 16 then Ok harts else Err reason.Range)
+    else Err reason.NotWord
+
+-- layout HEX
+abbrev pub layout_of : List ℕ → Result ℕ Reason
+layout_of line =
+    if has_form line LAYOUT.now 2 then
+    then_with (hexadecimal line 1) (λ bits. if nat_le bits (2 ^ 64 - 1) && is_layout bits then Ok bits else Err reason.Range)
+    else Err reason.NotWord
+
+-- the ranges of a task line
+abbrev pub task_in_range : ℕ → ℕ → ℕ → ℕ → ℕ → ℕ → Bool
+task_in_range image mem depth mctrctl vsctrctl period =
+    nat_le 4 mem && nat_le mem 1048576 && nat_eq (mem % 4) 0 && nat_le image mem && nat_le depth 4
+    && nat_le mctrctl (2 ^ 64 - 1) && nat_le vsctrctl (2 ^ 64 - 1) && nat_le period 1000000000
+
+-- task IMAGE MEM DEPTH MCTRCTL VSCTRCTL PERIOD
+abbrev pub task_of : List ℕ → Result TaskLine Reason
+task_of line =
+    if has_form line TASK.now 7 then
+    then_with (decimal line 1) (λ image. then_with (decimal line 2) (λ mem. then_with (decimal line 3) (λ depth.
+    then_with (hexadecimal line 4) (λ mctrctl. then_with (hexadecimal line 5) (λ vsctrctl. then_with (decimal line 6) (λ period.
+    if task_in_range image mem depth mctrctl vsctrctl period
+    then Ok (record { image = image; mem = mem; depth = depth; mctrctl = mctrctl; vsctrctl = vsctrctl; period = period })
+    else Err reason.Range))))))
+    else Err reason.NotWord
+
+-- a task line whose numbers are in their ranges
+pub record IsTask (t : TaskLine) : Type 0 where
+  pub some : 4 ≤ t.mem
+  pub most : t.mem ≤ 1048576
+  pub words : t.mem % 4 ≡ 0
+  pub image : t.image ≤ t.mem
+  pub depth : t.depth ≤ 4
+  pub period : t.period ≤ 1000000000
+
+-- the interrupts (RISC-V Privileged Architecture, mip)
+abbrev pub is_cause : ℕ → Bool
+is_cause c =
+    nat_eq c 1 || nat_eq c 2 || nat_eq c 3 || nat_eq c 5 || nat_eq c 6 || nat_eq c 7 || nat_eq c 9 || nat_eq c 10 || nat_eq c 11
+    || nat_eq c 13
+
+-- irq TASK STEP CAUSE
+abbrev pub irq_of : List ℕ → Result IrqWords Reason
+irq_of line =
+    if has_form line IRQ.now 4 then
+    then_with (decimal line 1) (λ task. then_with (decimal line 2) (λ step. then_with (decimal line 3) (λ cause.
+    if nat_le step 1000000000000000 && is_cause cause then Ok (record { task = kept task; step = step; cause = cause })
+    else Err reason.Range)))
+    else Err reason.NotWord
+
+-- run HART TASK STEPS
+abbrev pub run_of : List ℕ → Result Command Reason
+run_of line =
+    then_with (decimal line 1) (λ hart. then_with (decimal line 2) (λ task. then_with (decimal line 3) (λ steps.
+    if nat_le steps 1000000000 then Ok (command.Run (kept hart) (kept task) steps) else Err reason.Range)))
+
+-- run HART TASK STEPS, sample TASK, evict HART, or end
+abbrev pub command_of : List ℕ → Result Command Reason
+command_of line =
+    if has_form line RUN.now 4 then run_of line
+    else if has_form line SAMPLE.now 2 then then_with (decimal line 1) (λ task. Ok (command.Sample (kept task)))
+    else if has_form line EVICT.now 2 then then_with (decimal line 1) (λ hart. Ok (command.Evict (kept hart)))
+    else if has_form line END.now 1 then Ok command.End
+    else Err reason.NotWord

@@ -1,0 +1,97 @@
+//! The lines up to `images`, read from the text.
+
+ghost use Rattle.std.specs.Prelude.{◌≡◌, ◌≤◌, ◌<◌, ◌+◌, ◌-◌, ◌^◌, length, IfOk};
+ghost use Rattle.ctr_port.specs.Counts.{Rose};
+ghost use Rattle.ctr_port.specs.InHand.{text_of};
+ghost use Rattle.sched_text.specs.Header.{lines_of, is_done, Sound};
+ghost use Rattle.sched_text.specs.Heads.{OneLine, Heads, IsHeader};
+
+use crate::faults::{LineFault, Reason, ScheduleFault};
+use crate::heading::{Place, Progress, StepFault};
+use crate::reading::{Stop, read_line};
+use crate::schedule::Header;
+use crate::window::Window;
+use ctr_port::Source;
+use std::alloc::Global;
+
+// One more line of the header, which has this number.
+fn one_line<S: Source>(
+    progress: &mut Progress,
+    window: &mut Window,
+    source: &mut S,
+    line: u32,
+) -> Result<(), ScheduleFault>
+    requires sound { Sound progress.old }
+    requires irqs { length progress.old.irqs ≤ 65537 }
+    ensures line { OneLine line progress.old progress.new (text_of window.old (S.left source.old)) (text_of window.new (S.left source.new)) window.new result }
+    ensures count { IfOk result (λ _. lines_of progress.new ≡ lines_of progress.old + 1) }
+    ensures few { IfOk result (λ _. length progress.new.irqs ≤ 65537) }
+    ensures sound { IfOk result (λ _. Sound progress.new) }
+    ensures later { S.faults source.old ≤ S.faults source.new }
+    ensures cause { result ≡ Err ScheduleFault.ReadFault → Rose (S.faults source.old) (S.faults source.new) }
+{
+    let count = match read_line(window, source) {
+        Ok(count) => count,
+        Err(stop) => match stop {
+            Stop::Long => {
+                return Err(ScheduleFault::Line(LineFault {
+                    line,
+                    reason: Reason::LongLine,
+                }));
+            }
+            Stop::Cut => {
+                return Err(ScheduleFault::Line(LineFault {
+                    line,
+                    reason: Reason::Cut,
+                }));
+            }
+            Stop::Failed => return Err(ScheduleFault::ReadFault),
+        },
+    };
+    let stepped = progress.step(window.bytes().split_at(count).0);
+    window.pass(count + 1);
+    match stepped {
+        Ok(()) => Ok(()),
+        Err(fault) => match fault {
+            StepFault::Refused(reason) => Err(ScheduleFault::Line(LineFault { line, reason })),
+            StepFault::Memory => Err(ScheduleFault::Memory),
+        },
+    }
+}
+
+// Whether the images follow.
+fn is_done(place: Place) -> bool
+    ensures { result ≡ is_done place }
+{
+    matches!(place, Place::Images)
+}
+
+/// The lines up to `images`. `line` is the number of the line last begun, 0 before the first.
+pub(crate) fn read_header<S: Source>(
+    alloc: Global,
+    window: &mut Window,
+    source: &mut S,
+    line: &mut u32,
+) -> Result<Header, ScheduleFault>
+    requires { line.old ≡ 0 }
+    ensures heads { Heads line.new (text_of window.old (S.left source.old)) (text_of window.new (S.left source.new)) window.new result }
+    ensures sound { IfOk result IsHeader }
+    ensures most { line.new ≤ 65605 }
+    ensures later { S.faults source.old ≤ S.faults source.new }
+    ensures cause { result ≡ Err ScheduleFault.ReadFault → Rose (S.faults source.old) (S.faults source.new) }
+{
+    let mut progress = Progress::new(alloc);
+    while !is_done(progress.place) {
+        *line += 1;
+        match one_line(&mut progress, window, source, *line) {
+            Ok(()) => {}
+            Err(fault) => return Err(fault),
+        }
+    }
+    Ok(Header {
+        harts: progress.harts,
+        layout: progress.layout,
+        tasks: progress.tasks,
+        irqs: progress.irqs.into_lines(),
+    })
+}
