@@ -14,18 +14,19 @@ branch_image = 0x63 ∷ 0x04 ∷ 0x00 ∷ 0x00 ∷ []
 -- at 80000008, after the one branch from 80000000, with these flags
 abbrev pub one_branch : ℕ → Sample
 one_branch flags = record {
-    misc = 3;
-    identifier = 0;
-    ip = 0x80000008;
-    pid = 1;
-    tid = 1;
-    time = 0;
-    addr = 0;
-    id = 0;
-    stream_id = 0;
-    cpu = 0;
-    period = 0;
-    branches = record { from = 0x80000000; to = 0x80000008; flags = flags } ∷ [] }
+  misc = 3;
+  identifier = 0;
+  ip = 0x80000008;
+  pid = 1;
+  tid = 1;
+  time = 0;
+  addr = 0;
+  id = 0;
+  stream_id = 0;
+  cpu = 0;
+  period = 0;
+  branches = record { from = 0x80000000; to = 0x80000008; flags = flags } ∷ [];
+}
 
 -- a call is perf's type 4, a branch its type 1, in bits 20 to 23
 abbrev pub call_sample : Sample

@@ -11,12 +11,10 @@ ghost use Rattle.ctrsim_cli.specs.Worked.{call_image, call_sample, branch_image,
 pub fn lone_run_laws()
     ensures state { (image : List ℕ) (mem n : ℕ) → (lone image mem n).state ≡ advanced n (fresh image mem) }
     ensures stack { (image : List ℕ) (mem n : ℕ) → (lone image mem n).state.stack ≡ stack_of (lone image mem n).history }
-{
-}
+{}
 
 /// Two lone runs worked out by hand: one call, and one branch that is taken.
 pub fn worked_runs()
     ensures call { sample_of (lone call_image 8 1) ≡ call_sample }
     ensures branch { sample_of (lone branch_image 12 1) ≡ branch_sample }
-{
-}
+{}
