@@ -4,7 +4,7 @@
 set -eu
 cd "$(dirname "${BASH_SOURCE[0]}")/.."
 exec python3 - "${1:-100000000}" <<'PYTHON'
-import os, resource, shutil, struct, subprocess, sys, tempfile, time
+import os, shutil, struct, subprocess, sys, tempfile, time
 
 steps = int(sys.argv[1])
 few = 200_000
@@ -66,12 +66,24 @@ for name, words in LOOPS:
             base = per_step(lambda n: [plain, image, str(n)], lambda n: None)
             line += ", plain C %7.1f, ratio %.2f" % (base, ours / base)
         print(line)
-# in a child of its own, so that no other run's memory is counted
-pid = os.fork()
-if pid == 0:
-    timed([binary, "run"], schedule(LOOPS[0][1], few))
-    print("peak memory %.1f MB" % (resource.getrusage(resource.RUSAGE_CHILDREN).ru_maxrss / 1024), flush=True)
-    os._exit(0)
-os.waitpid(pid, 0)
+
+def peak(command, text):
+    """The greatest resident size in MB, as the kernel kept it for the program's own address space."""
+    path = os.path.join(folder, "input")
+    open(path, "wb").write(text)
+    child = subprocess.Popen(command, stdin=open(path, "rb"), stdout=subprocess.DEVNULL)
+    most = 0
+    while child.poll() is None:
+        try:
+            for line in open("/proc/%d/status" % child.pid, encoding="ascii"):
+                if line.startswith("VmHWM:"):
+                    most = max(most, int(line.split()[1]))
+        except OSError:
+            pass
+        time.sleep(0.01)
+    return most / 1024
+
+
+print("peak memory %.1f MB" % peak([binary, "run"], schedule(LOOPS[0][1], steps)))
 shutil.rmtree(folder)
 PYTHON
