@@ -3,7 +3,7 @@ use Rattle.std.proofs.Common.{◌≡◌, ℕ, ◌+◌, ◌*◌, ◌<◌, ◌≤�
 use Rattle.std.proofs.Math.Seq.{drop-append_seam}
 use Rattle.std.proofs.lemmas.List.{drop-append-le, length-drop}
 use Rattle.std.specs.List.{flat_map}
-use Rattle.byteorder.specs.Endian.{little_bytes, little_number}
+use Rattle.byteorder.specs.Endian.{little_number}
 use Rattle.byteorder.specs.Numbers.{length-bytes_low_first, little_number-reads_back, little_from-append}
 use Rattle.perf_sample.specs.declared.sample.Branch.{Branch}
 use Rattle.perf_sample.specs.declared.sample.Sample.{Sample}
@@ -37,17 +37,40 @@ length_fields layout s =
     let g = present layout 9 (le 8 s.stream_id) in
     let h = present layout 7 (le 4 s.cpu ++ le 4 0) in
     let i = present layout 8 (le 8 s.period) in
-    omega (arith,
-      length-append (a ++ b ++ c ++ d ++ e ++ f ++ g ++ h) i, length-append (a ++ b ++ c ++ d ++ e ++ f ++ g) h, length-append (a ++ b ++ c ++ d ++ e ++ f) g,
-      length-append (a ++ b ++ c ++ d ++ e) f, length-append (a ++ b ++ c ++ d) e, length-append (a ++ b ++ c) d, length-append (a ++ b) c, length-append a b,
-      length_one layout 16 s.identifier, length_one layout 0 s.ip, length_two layout 1 s.pid s.tid, length_one layout 2 s.time, length_one layout 3 s.addr, length_one layout 6 s.id,
-      length_one layout 9 s.stream_id, length_two layout 7 s.cpu 0, length_one layout 8 s.period)
+    omega (
+      arith,
+      length-append (a ++ b ++ c ++ d ++ e ++ f ++ g ++ h) i,
+      length-append (a ++ b ++ c ++ d ++ e ++ f ++ g) h,
+      length-append (a ++ b ++ c ++ d ++ e ++ f) g,
+      length-append (a ++ b ++ c ++ d ++ e) f,
+      length-append (a ++ b ++ c ++ d) e,
+      length-append (a ++ b ++ c) d,
+      length-append (a ++ b) c,
+      length-append a b,
+      length_one layout 16 s.identifier,
+      length_one layout 0 s.ip,
+      length_two layout 1 s.pid s.tid,
+      length_one layout 2 s.time,
+      length_one layout 3 s.addr,
+      length_one layout 6 s.id,
+      length_one layout 9 s.stream_id,
+      length_two layout 7 s.cpu 0,
+      length_one layout 8 s.period,
+    )
 
 length_branches : (bs : List Branch) → length (flat_map branch_bytes bs) ≡ 24 * length bs
 length_branches [] = refl
 length_branches (b ∷ bs) =
-    omega (arith, length-append (branch_bytes b) (flat_map branch_bytes bs), length-append (le 8 b.from ++ le 8 b.to) (le 8 b.flags), length-append (le 8 b.from) (le 8 b.to),
-      length_le 8 b.from, length_le 8 b.to, length_le 8 b.flags, length_branches bs)
+    omega (
+      arith,
+      length-append (branch_bytes b) (flat_map branch_bytes bs),
+      length-append (le 8 b.from ++ le 8 b.to) (le 8 b.flags),
+      length-append (le 8 b.from) (le 8 b.to),
+      length_le 8 b.from,
+      length_le 8 b.to,
+      length_le 8 b.flags,
+      length_branches bs,
+    )
 
 -- what stands before the size, and behind it
 abbrev before : Sample → List ℕ
@@ -77,8 +100,21 @@ length_spelling layout s =
     let c = fields layout s in
     let d = le 8 (length s.branches) in
     let e = flat_map branch_bytes s.branches in
-    omega (arith, ap length (parts layout s), length-append a (b ++ (c ++ (d ++ e))), length-append b (c ++ (d ++ e)), length-append c (d ++ e), length-append d e,
-      length-append (le 4 9) (le 2 s.misc), length_le 4 9, length_le 2 s.misc, length_le 2 (size_of layout s), length_fields layout s, length_le 8 (length s.branches), length_branches s.branches)
+    omega (
+      arith,
+      ap length (parts layout s),
+      length-append a (b ++ (c ++ (d ++ e))),
+      length-append b (c ++ (d ++ e)),
+      length-append c (d ++ e),
+      length-append d e,
+      length-append (le 4 9) (le 2 s.misc),
+      length_le 4 9,
+      length_le 2 s.misc,
+      length_le 2 (size_of layout s),
+      length_fields layout s,
+      length_le 8 (length s.branches),
+      length_branches s.branches,
+    )
 
 width_most : (layout place : ℕ) → width layout place ≤ 8
 width_most layout place = elim (has layout place) as (λ (b : Bool). (if b then 8 else 0) ≤ 8) [ true ↦ omega arith | false ↦ omega arith ]

@@ -11,5 +11,4 @@ pub fn no_proper_prefix(layout: Layout, first: &Sample, second: &Sample, bytes: 
     requires first { Spells layout first.now bytes.now }
     requires second { Spells layout second.now (bytes.now ++ more.now) }
     ensures { more.now ≡ [] }
-{
-}
+{}
