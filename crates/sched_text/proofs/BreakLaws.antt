@@ -1,11 +1,11 @@
 -- A text has one break at most.
-use Rattle.std.proofs.Common.{◌≡◌, ◌⊎◌, ℕ, zero, suc, ◌+◌, ◌<◌, ◌≤◌, List, [], length, drop, Result, Ok, Err, Bool, true, false, refl, sym, ap, ◌∙◌, subst, inl, inr, arith, add-one}
+use Rattle.std.proofs.Common.{◌≡◌, ℕ, zero, suc, ◌+◌, ◌<◌, ◌≤◌, List, length, drop, Result, Ok, Err, true, refl, sym, ap, ◌∙◌, subst, inl, inr, arith, add-one}
 use Rattle.std.proofs.lemmas.Bool.{cases_eq, cases_lt, true≢false, false≢true}
 use Rattle.sched_text.specs.Lines.{LineCut, Line, Long, Open, line_at}
-use Rattle.sched_text.specs.Header.{step, step_at, row_cut, header_cut, next_line, after, is_done}
-use Rattle.sched_text.specs.Heads.{HasHeader, IsBegun, HeaderBreak}
+use Rattle.sched_text.specs.Header.{step_at, row_cut, header_cut, next_line, after, is_done}
+use Rattle.sched_text.specs.Heads.{HasHeader, HeaderBreak}
 use Rattle.sched_text.specs.Commands.{command_at, commands_after, next_command, joined}
-use Rattle.sched_text.specs.Text.{images_len, ImagesBreak, HasCommands, CommandsBreak, TextBreak}
+use Rattle.sched_text.specs.Text.{images_len, ImagesBreak, CommandsBreak, TextBreak}
 use Rattle.sched_text.specs.declared.heading.Place.{Place}
 use Rattle.sched_text.specs.declared.heading.Place.TheVariants as place
 use Rattle.sched_text.specs.declared.heading.Progress.{Progress}

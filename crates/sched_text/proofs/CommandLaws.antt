@@ -6,7 +6,7 @@ use Rattle.ctr_port.proofs.InHand.{of_map, of_then}
 use Rattle.sched_text.specs.Lines.{LineCut, Line, Long, Open, line_within, line_at}
 use Rattle.sched_text.specs.Rows.{command_of}
 use Rattle.sched_text.specs.Header.{refuse}
-use Rattle.sched_text.specs.Commands.{is_end, end_at, counted_at, command_row, command_cut, command_at, ends_hand, cut_needs_read, needs_read}
+use Rattle.sched_text.specs.Commands.{is_end, end_at, command_row, command_cut, command_at, ends_hand, cut_needs_read, needs_read}
 use Rattle.sched_text.specs.Cuts.{is_open}
 use Rattle.sched_text.specs.Reader.{EndsAt, Shows, Finishes, ended}
 use Rattle.sched_text.specs.declared.faults.LineFault.{LineFault}

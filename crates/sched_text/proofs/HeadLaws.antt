@@ -1,10 +1,10 @@
 -- One line of the header after another.
-use Rattle.std.proofs.Common.{◌≡◌, ℕ, suc, ◌+◌, List, Option, None, Some, Result, Ok, Err, refl, ap, ◌∙◌, sym, add-one, true, false, subst}
+use Rattle.std.proofs.Common.{◌≡◌, ℕ, ◌+◌, List, Option, None, Some, Result, Ok, Err, refl, ap, ◌∙◌, sym, add-one, true, false, subst}
 use Rattle.ctr_port.specs.InHand.{text_of, Same, Of}
 use Rattle.ctr_port.proofs.InHand.{of_map, of_then}
-use Rattle.sched_text.specs.Lines.{LineCut, Line, Long, Open, line_at}
+use Rattle.sched_text.specs.Lines.{Long, line_at}
 use Rattle.sched_text.specs.Header.{start, step, refuse, row_cut, header_cut, next_line, after, is_done}
-use Rattle.sched_text.specs.Heads.{OneLine, Heads, IsBegun, IsCutOff, HeaderBreak, HasHeader, done}
+use Rattle.sched_text.specs.Heads.{OneLine, Heads, IsCutOff, HeaderBreak, HasHeader, done}
 use Rattle.sched_text.specs.declared.heading.Progress.{Progress}
 use Rattle.sched_text.specs.declared.schedule.Header.{Header}
 use Rattle.sched_text.specs.declared.faults.Reason.{Reason}

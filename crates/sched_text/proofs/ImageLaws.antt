@@ -1,14 +1,13 @@
 -- An image, piece by piece.
-use Rattle.std.proofs.Common.{◌≡◌, ℕ, ◌+◌, ◌-◌, ◌<◌, ◌≤◌, min, List, [], ◌++◌, length, take, drop, Option, None, Some, Result, Ok, Err, if◌then◌else◌, nat_lt, Bool, true, false, refl, sym, ap, ◌∙◌, append_assoc, append-nil, take-append-drop, length-append, lt-ltb, le-ltb, arith, subst}
+use Rattle.std.proofs.Common.{◌≡◌, ℕ, ◌+◌, ◌-◌, ◌<◌, ◌≤◌, min, List, [], ◌++◌, length, take, drop, Option, None, Some, Ok, if◌then◌else◌, nat_lt, Bool, true, false, refl, sym, ap, ◌∙◌, append_assoc, append-nil, take-append-drop, length-append, lt-ltb, le-ltb, arith}
 use Rattle.std.proofs.Math.Seq.{take-append_seam, drop-append_seam}
 use Rattle.std.proofs.lemmas.List.{length-take, drop_all}
-use Rattle.std.specs.Io.KnownBytes.{Consumes, Keeps, IsAtEnd}
+use Rattle.std.specs.Io.KnownBytes.{IsAtEnd}
 use Rattle.ctr_port.specs.InHand.{text_of, Same, Of}
-use Rattle.ctr_port.proofs.InHand.{of_map, of_then, of_same, same_self, same_given, same_kept}
+use Rattle.ctr_port.proofs.InHand.{of_map, of_then, of_same}
 use Rattle.sched_text.specs.Header.{refuse}
 use Rattle.sched_text.specs.Images.{image_at, IsWithin}
 use Rattle.sched_text.specs.declared.faults.Reason.TheVariants as reason
-use Rattle.sched_text.specs.declared.faults.LineFault.{LineFault}
 
 -- the text is what the image has so far, and what follows
 abbrev pub Joins : List ℕ → List ℕ → List ℕ → Type 0

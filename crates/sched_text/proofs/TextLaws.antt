@@ -1,5 +1,5 @@
 -- Lines in hand are lines of the text.
-use Rattle.std.proofs.Common.{◌≡◌, ℕ, zero, suc, ◌+◌, List, [], ◌∷◌, ◌++◌, if◌then◌else◌, Bool, false, true, Option, None, Some, refl, sym, ap, ◌∙◌, subst, append-nil, eqb}
+use Rattle.std.proofs.Common.{◌≡◌, ℕ, zero, suc, List, [], ◌∷◌, ◌++◌, if◌then◌else◌, Bool, false, true, Option, None, Some, refl, sym, ap, ◌∙◌, subst, append-nil, eqb}
 use Rattle.std.proofs.lemmas.Bool.{true≢false}
 use Rattle.std.specs.Io.KnownBytes.{IsAtEnd}
 use Rattle.ctr_port.specs.InHand.{text_of, Same, Of}

@@ -1,5 +1,5 @@
 -- The whole text: where it breaks first.
-use Rattle.std.specs.Prelude.{◌≡◌, ◌⊎◌, ℕ, ◌+◌, ◌<◌, ◌≤◌, Bool, true, false, List, length, drop, Result, Ok, Err}
+use Rattle.std.specs.Prelude.{◌≡◌, ◌⊎◌, ℕ, ◌+◌, ◌<◌, ◌≤◌, Bool, true, false, List, length, drop, Ok, Err}
 use Rattle.std.specs.List.{sum_by, list_any}
 use Rattle.sched_text.specs.Heads.{HasHeader, HeaderBreak}
 use Rattle.sched_text.specs.Commands.{is_end, command_at, commands_after}

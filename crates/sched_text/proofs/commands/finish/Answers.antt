@@ -1,4 +1,3 @@
-use Rattle.std.proofs.Common.{◌≡◌, ◌<◌, length}
 use Rattle.sched_text.proofs.CommandLaws.{end_refused}
 use Rattle.sched_text.proofs.commands.finish.Goals as goal
 

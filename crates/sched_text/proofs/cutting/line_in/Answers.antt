@@ -1,4 +1,4 @@
-use Rattle.std.proofs.Common.{◌<◌, ◌≤◌, length, arith}
+use Rattle.std.proofs.Common.{◌<◌, length, arith}
 use Rattle.sched_text.proofs.LineLaws.{scan_start, scan_more, scan_line, scan_open, scan_long}
 use Rattle.sched_text.proofs.cutting.line_in.Goals as goal
 

@@ -1,4 +1,4 @@
-use Rattle.std.proofs.Common.{◌≡◌, ◌∙◌, sym, ap, subst, refl, Err, Result}
+use Rattle.std.proofs.Common.{◌∙◌, ap, subst, refl, Err}
 use Rattle.ctr_port.specs.InHand.{text_of}
 use Rattle.sched_text.specs.Hand.{HasLine}
 use Rattle.sched_text.specs.Header.{step, Stepped}

@@ -1,9 +1,8 @@
-use Rattle.std.proofs.Common.{◌≡◌, ◌∙◌, ◌≤◌, ◌+◌, sym, ap, subst, Err, Result, arith}
-use Rattle.ctr_port.specs.InHand.{text_of, Of}
-use Rattle.sched_text.specs.Header.{start, lines_of, Sound}
+use Rattle.std.proofs.Common.{◌∙◌, ◌+◌, sym, subst, arith}
+use Rattle.ctr_port.specs.InHand.{text_of}
+use Rattle.sched_text.specs.Header.{Sound}
 use Rattle.sched_text.specs.Heads.{OneLine}
-use Rattle.sched_text.specs.declared.heading.Progress.{Progress}
-use Rattle.sched_text.proofs.HeadLaws.{Came, came_none, came_more, came_stops}
+use Rattle.sched_text.proofs.HeadLaws.{came_none, came_more, came_stops}
 use Rattle.sched_text.proofs.header.read_header.Goals as goal
 
 pub loop-line-init : goal.loop-line-init

@@ -1,7 +1,7 @@
-use Rattle.std.proofs.Common.{◌≡◌, ◌∙◌, ◌≤◌, ◌<◌, ◌+◌, ◌-◌, ◌++◌, ℕ, List, min, take, drop, [], length, sym, ap, subst, refl, arith, length-append}
-use Rattle.ctr_port.specs.InHand.{text_of, Of, Same}
+use Rattle.std.proofs.Common.{◌≡◌, ◌<◌, ◌-◌, ◌++◌, ℕ, List, min, take, drop, [], length, ap, refl, arith, length-append}
+use Rattle.ctr_port.specs.InHand.{text_of}
 use Rattle.ctr_port.proofs.InHand.{same_self, same_given}
-use Rattle.sched_text.proofs.ImageLaws.{Joins, joins_none, joins_moved, joins_read, took}
+use Rattle.sched_text.proofs.ImageLaws.{joins_none, joins_moved, joins_read, took}
 use Rattle.sched_text.proofs.imaging.read_image.Goals as goal
 
 pub loop-window-init : goal.loop-window-init

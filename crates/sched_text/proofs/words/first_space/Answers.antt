@@ -1,8 +1,7 @@
-use Rattle.std.proofs.Common.{◌≡◌, ◌<◌, ◌≤◌, ◌∙◌, length, arith, sym}
+use Rattle.std.proofs.Common.{◌≡◌, length, arith, sym}
 use Rattle.std.proofs.lemmas.Bool.{eq-eqb}
 use Rattle.std.proofs.lemmas.List.Sums.{position_or_len_is}
 use Rattle.sched_text.specs.Lines.{is_space}
-use Rattle.sched_text.proofs.WordLaws.{no_space}
 use Rattle.sched_text.proofs.words.first_space.Goals as goal
 
 pub returns-then-line-at-eq32-clause-first : goal.returns-then-line-at-eq32-clause-first

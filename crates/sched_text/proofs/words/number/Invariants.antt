@@ -1,4 +1,4 @@
-use Rattle.std.proofs.Common.{◌≡◌, ◌<◌, ◌^◌, min, take, true, nat_lt}
+use Rattle.std.proofs.Common.{◌≡◌, ◌^◌, min, take, true, nat_lt}
 use Rattle.std.specs.List.{list_all}
 use Rattle.sched_text.specs.Numbers.{face, digits_value}
 use Rattle.sched_text.proofs.words.number.Given as goal

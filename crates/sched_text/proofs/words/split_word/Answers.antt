@@ -1,5 +1,4 @@
-use Rattle.std.proofs.Common.{◌<◌, length, arith}
-use Rattle.sched_text.specs.Lines.{words}
+use Rattle.std.proofs.Common.{arith}
 use Rattle.sched_text.proofs.WordLaws.{last_word, next_word}
 use Rattle.sched_text.proofs.words.split_word.Goals as goal
 

@@ -1,4 +1,4 @@
-use Rattle.std.proofs.Common.{◌≡◌, ◌<◌, ◌≤◌, ℕ, drop}
+use Rattle.std.proofs.Common.{◌≡◌, drop}
 use Rattle.sched_text.specs.Lines.{words}
 use Rattle.sched_text.proofs.words.word.Given as goal
 

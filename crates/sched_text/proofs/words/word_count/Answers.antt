@@ -1,4 +1,4 @@
-use Rattle.std.proofs.Common.{◌≡◌, ◌≤◌, ◌∙◌, length, arith, ap, take}
+use Rattle.std.proofs.Common.{◌≡◌, ◌∙◌, arith, take}
 use Rattle.std.proofs.lemmas.List.{take_all}
 use Rattle.sched_text.proofs.WordLaws.{words_count}
 use Rattle.sched_text.proofs.words.word_count.Goals as goal

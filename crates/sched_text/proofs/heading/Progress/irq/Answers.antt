@@ -1,4 +1,4 @@
-use Rattle.std.proofs.Common.{◌<◌, ◌∙◌, length, sym, arith}
+use Rattle.std.proofs.Common.{◌<◌, ◌∙◌, length, sym}
 use Rattle.sched_text.proofs.MarkLaws.{irq_sound}
 use Rattle.sched_text.proofs.heading.Progress.irq.Goals as goal
 
