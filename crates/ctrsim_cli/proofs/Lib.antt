@@ -1,3 +1,4 @@
+mod BranchLists
 mod Complete
 mod Cuts
 mod Decimals

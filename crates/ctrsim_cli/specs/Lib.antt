@@ -12,3 +12,4 @@ pub mod Form
 pub mod Ended
 pub mod Performed
 pub mod Worked
+pub mod Ring

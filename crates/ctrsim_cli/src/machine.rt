@@ -1,5 +1,5 @@
 // A machine that runs one task in mode M.
-ghost use Rattle.std.specs.Prelude.{◌≡◌, ◌%◌, ◌<◌, ◌≤◌, Some, None, cond, nat_eq, length, replicate, IfOk, IfErr, OnOk, IfSome};
+ghost use Rattle.std.specs.Prelude.{◌+◌, ◌++◌, ◌≡◌, ◌%◌, ◌<◌, ◌≤◌, Some, None, cond, nat_eq, length, replicate, IfOk, IfErr, OnOk, IfSome};
 ghost use Rattle.std.specs.Bool.{OnTrue, OnFalse};
 ghost use Rattle.rv_decode.specs.Rows.{NumbersFit};
 ghost use Rattle.ctrsim_cli.specs.State.{fresh};
@@ -237,12 +237,12 @@ impl Machine {
         self.pc
     }
 
-    /// The records, youngest first.
-    pub fn slots(&self) -> &[Slot]
-        ensures slots { result.now ≡ self.now.stack }
-        ensures sixteen { length result.now ≡ 16 }
+    /// The records, youngest first, in two pieces.
+    pub fn pieces(&self) -> (&[Slot], &[Slot])
+        ensures slots { result.0.now ++ result.1.now ≡ self.now.stack }
+        ensures sixteen { length result.0.now + length result.1.now ≡ 16 }
     {
-        self.records.slots()
+        self.records.pieces()
     }
 }
 

@@ -1,5 +1,6 @@
 // The records of control transfers of a machine.
-ghost use Rattle.std.specs.Prelude.{◌≡◌, ◌+◌, ◌<◌, ◌^◌, ◌%◌, ◌∷◌, take, length, cond, nat_eq, Some, None, IfSome};
+ghost use Rattle.std.specs.Prelude.{◌≡◌, ◌+◌, ◌<◌, ◌^◌, ◌%◌, ◌∷◌, ◌++◌, take, length, cond, nat_eq, Some, None, IfSome};
+ghost use Rattle.ctrsim_cli.specs.Ring.{IsBefore};
 ghost use Rattle.ctrsim_cli.specs.Sample.{branch_of};
 ghost use Rattle.ctrsim_cli.specs.State.{no_entries};
 
@@ -64,21 +65,29 @@ const ZERO: Slot = Slot {
     kind: 0,
 };
 
-/// The 16 youngest records. Contracts see them as a list, youngest first.
+/// The 16 youngest records, in a ring. Contracts see them as a list, youngest first.
+///
+/// The youngest stands at `first`, the next older one after it, and after the last place comes place 0:
+///
+/// ```text
+/// places   0 ..   first      first + 1   ..   15
+///          older  youngest   older       ..
+/// ```
 #[derive(Drop)]
 pub struct Records {
     slots: [Slot; 16],
+    first: usize,
 }
 
 impl Model for Records {
-    ghost use Rattle.std.specs.Prelude.{◌≡◌, List, length};
+    ghost use Rattle.std.specs.Prelude.{◌≡◌, ◌<◌, ◌++◌, List, length, take, drop};
     ghost use Rattle.ctrsim_cli.specs.State.{Entry};
 
     ghost Value = { List Entry };
 
-    ghost view = { λ r. r.slots };
+    ghost view = { λ r. drop r.first r.slots ++ take r.first r.slots };
 
-    ghost invariant = { λ r. length r.slots ≡ 16 };
+    ghost invariant = { λ r. (length r.slots ≡ 16) × (r.first < 16) };
 }
 
 impl Records {
@@ -86,22 +95,43 @@ impl Records {
     pub fn new() -> Self
         ensures { result ≡ no_entries }
     {
-        Records { slots: [ZERO; 16] }
+        Records {
+            slots: blank(),
+            first: 0,
+        }
     }
 
-    /// The records, youngest first.
-    pub fn slots(&self) -> &[Slot]
-        ensures slots { result.now ≡ self.now }
-        ensures sixteen { length self.now ≡ 16 }
+    /// The records, youngest first, in two pieces.
+    pub fn pieces(&self) -> (&[Slot], &[Slot])
+        ensures slots { result.0.now ++ result.1.now ≡ self.now }
+        ensures sixteen { length result.0.now + length result.1.now ≡ 16 }
     {
-        &self.slots
+        let (older, younger) = self.slots.split_at(self.first);
+        (younger, older)
     }
 
     /// Puts a record first, and drops the last one.
     pub fn push(&mut self, slot: Slot)
         ensures { self.new ≡ slot ∷ take 15 self.old }
     {
-        self.slots.rotate_right(1);
-        self.slots[0] = slot;
+        let place = place_before(self.first);
+        self.slots[place] = slot;
+        self.first = place;
     }
+}
+
+// The place before another one in the ring.
+fn place_before(place: usize) -> usize
+    requires { place < 16 }
+    ensures before { IsBefore result place }
+    ensures within { result < 16 }
+{
+    if place == 0 { 15 } else { place - 1 }
+}
+
+// Made apart, so that no goal spells the slots out.
+fn blank() -> [Slot; 16]
+    ensures { result ≡ no_entries }
+{
+    [ZERO; 16]
 }

@@ -23,16 +23,27 @@ fn keep(branches: &mut Branches, slot: Slot)
     }
 }
 
-// The branches of the records that hold a transfer, in order.
-fn branches(slots: &[Slot]) -> Branches
-    requires { length slots.now ≤ 256 }
-    ensures items { result ≡ branches_of slots.now }
+// Adds the branches of the records that hold a transfer, in order.
+fn keep_all(branches: &mut Branches, slots: &[Slot])
+    requires { length branches.old + length slots.now ≤ 256 }
+    ensures items { branches.new ≡ branches.old ++ branches_of slots.now }
+    ensures len { length branches.new ≤ length branches.old + length slots.now }
+    ensures flags { FlagsFit branches.old → FlagsFit branches.new }
+{
+    for slot in slots {
+        keep(branches, *slot);
+    }
+}
+
+// The branches of a machine's records that hold a transfer, youngest first.
+fn branches(machine: &Machine) -> Branches
+    ensures items { result ≡ branches_of machine.now.stack }
     ensures flags { FlagsFit result }
 {
+    let (younger, older) = machine.pieces();
     let mut branches = Branches::new();
-    for slot in slots {
-        keep(&mut branches, *slot);
-    }
+    keep_all(&mut branches, younger);
+    keep_all(&mut branches, older);
     branches
 }
 
@@ -53,7 +64,7 @@ pub fn sample(machine: &Machine) -> Sample
         stream_id: 0,
         cpu: 0,
         period: 0,
-        branches: branches(machine.slots()),
+        branches: branches(machine),
     }
 }
 
