@@ -1,0 +1,54 @@
+ghost use Rattle.std.specs.Prelude.{◌≡◌, ◌≤◌, ◌<◌, ◌+◌, ◌*◌, ◌^◌, ◌++◌, ◌∷◌, [], take, length};
+ghost use Rattle.ctr_csrs.specs.Depths.{entries_of};
+ghost use Rattle.ctr_buffer.specs.Live.{live};
+ghost use Rattle.task_switch.specs.Passed.{passed};
+
+use crate::entry::{read_depth, read_entry};
+use crate::slots::Slots;
+use ctr_buffer::Slot;
+use ctr_csrs::entries;
+use indirect_regs::{CtrPort, PortReg};
+
+/// The entries that hold a transfer, those with V=1, youngest first, in 3 accesses and 4 for each entry of the depth. The
+/// unit is as before.
+pub fn read_stack<P: CtrPort>(port: &mut P) -> Slots
+    requires { P.count port.old ≤ 2 ^ 62 }
+    ensures slots { result ≡ live (P.unit port.old).stack.slots }
+    ensures unit { P.unit port.new ≡ P.unit port.old }
+    ensures count { P.count port.new ≡ P.count port.old + (3 + 4 * entries_of (P.unit port.old).stack.depth) }
+    ensures rest { P.same_rest port.old port.new }
+{
+    let depth = read_depth(port);
+    let select = port.get(PortReg::Select);
+    let slots = read_live(port, entries(depth));
+    port.set(PortReg::Select, select);
+    slots
+}
+
+// Reads as many entries from the youngest on, in 4 accesses each, and keeps those that hold a transfer.
+fn read_live<P: CtrPort>(port: &mut P, number: u16) -> Slots
+    requires room { P.count port.old ≤ 2 ^ 62 + 8 }
+    requires all { number ≤ length (P.unit port.old).stack.slots }
+    requires small { number ≤ 256 }
+    ensures slots { result ≡ live (take number (P.unit port.old).stack.slots) }
+    ensures unit { P.unit port.new ≡ passed number (P.unit port.old) }
+    ensures count { P.count port.new ≡ P.count port.old + 4 * number }
+    ensures rest { P.same_rest port.old port.new }
+{
+    let mut slots = Slots::new();
+    for i in 0..number {
+        keep(&mut slots, read_entry(port, i));
+    }
+    slots
+}
+
+// Adds an entry if it holds a transfer.
+fn keep(slots: &mut Slots, slot: Slot)
+    requires { length slots.old < 256 }
+    ensures slots { slots.new ≡ slots.old ++ live (slot ∷ []) }
+    ensures most { length slots.new ≤ length slots.old + 1 }
+{
+    if slot.source % 2 == 1 {
+        slots.push(slot);
+    }
+}
