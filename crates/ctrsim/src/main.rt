@@ -5,7 +5,7 @@ use ctr_port::{StdSink, StdSource, write_whole};
 use ctrsim_cli::ctrsim;
 use std::alloc::AllocError;
 use std::env;
-use std::io::BufReader;
+use std::io::{BufReader, ErrorKind};
 use std::process::ExitCode;
 
 // The arguments after the program's name.
@@ -16,13 +16,22 @@ enum Words {
 }
 
 fn words_of(rt: &HostRuntime) -> Words {
-    let Ok(mut args) = env::args(rt) else {
-        return Words::Unreadable;
+    let mut args = match env::args(rt) {
+        Ok(args) => args,
+        Err(error) => return words_refused(error.kind()),
     };
     let _program = args.next();
     match args.collect(rt.alloc()) {
         Ok(words) => Words::Are(words),
         Err(AllocError) => Words::NoMemory,
+    }
+}
+
+// Why the arguments can't be had.
+fn words_refused(kind: ErrorKind) -> Words {
+    match kind {
+        ErrorKind::OutOfMemory => Words::NoMemory,
+        _ => Words::Unreadable,
     }
 }
 
