@@ -1,7 +1,7 @@
-ghost use Rattle.std.specs.Prelude.{◌≡◌, ◌<◌, ◌≤◌, ◌+◌, ◌^◌, ℕ, length};
+ghost use Rattle.std.specs.Prelude.{◌≡◌, ◌<◌, ◌≤◌, ◌+◌, ◌^◌, length};
 ghost use Rattle.ctr_buffer.specs.History.{FitsPart, with_part};
 ghost use Rattle.ctr_buffer.specs.Stack.{size_of, entry_at, poked};
-ghost use Rattle.indirect_regs.specs.Unit.{UnitState, IsUnit};
+ghost use Rattle.indirect_regs.specs.Unit.{IsUnit};
 
 use ctr_buffer::{Part, Slot};
 use ctr_csrs::{Depth, depth_of};

@@ -2,7 +2,6 @@ ghost use Rattle.std.specs.Prelude.{◌≡◌, ◌≤◌, ◌+◌, ◌*◌, ◌^
 ghost use Rattle.ctr_csrs.specs.Depths.{entries_of};
 ghost use Rattle.ctr_csrs.specs.StatusFigure.{pointer_in, frozen_in};
 ghost use Rattle.ctr_buffer.specs.Entry.{zero_entry};
-ghost use Rattle.ctr_buffer.specs.Stack.{IsStack, size_of};
 ghost use Rattle.task_switch.specs.Saved.{held, Whole};
 ghost use Rattle.task_switch.specs.Passed.{filled};
 
@@ -41,7 +40,7 @@ fn empty_to<P: CtrPort>(port: &mut P, depth: Depth)
 
 // Writes the status, in 1 access. The entries move as the pointer does.
 fn point_to<P: CtrPort>(port: &mut P, status: u64)
-    requires room { P.count port.old ≤ 2 ^ 62 + 8 }
+    requires room { P.count port.old ≤ 2 ^ 62 + 2000 }
     requires full { length (P.unit port.old).stack.slots ≡ entries_of (P.unit port.old).stack.depth }
     ensures unit { P.unit port.new ≡ record (P.unit port.old) { frozen = frozen_in status; stack = record { depth = (P.unit port.old).stack.depth; slots = (P.unit port.new).stack.slots; pointer = pointer_in status (P.unit port.old).stack.depth } } }
     ensures full { length (P.unit port.new).stack.slots ≡ entries_of (P.unit port.old).stack.depth }

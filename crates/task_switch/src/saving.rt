@@ -1,7 +1,5 @@
 ghost use Rattle.std.specs.Prelude.{◌≡◌, ◌≤◌, ◌+◌, ◌*◌, ◌^◌, take, length};
 ghost use Rattle.ctr_csrs.specs.Depths.{entries_of};
-ghost use Rattle.ctr_buffer.specs.Stack.{IsStack, size_of};
-ghost use Rattle.indirect_regs.specs.Unit.{UnitState};
 ghost use Rattle.task_switch.specs.Saved.{saved, held, Whole};
 ghost use Rattle.task_switch.specs.Passed.{passed, at_last};
 
