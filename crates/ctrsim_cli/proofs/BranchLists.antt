@@ -3,7 +3,7 @@ use Rattle.std.proofs.Common.{◌≡◌, ◌∙◌, ◌++◌, ◌∷◌, [], ℕ
 use Rattle.std.proofs.lemmas.List.{take_more, map-append}
 use Rattle.std.proofs.lemmas.List.Elements.{filter-append}
 use Rattle.perf_sample.specs.declared.sample.Branch.{Branch}
-use Rattle.ctrsim_cli.specs.State.{Entry, no_entry}
+use Rattle.ctrsim_cli.specs.State.{Entry}
 use Rattle.ctrsim_cli.specs.Sample.{live, branch_of, branches_of}
 
 pub branches_joined : (xs ys : List Entry) → branches_of (xs ++ ys) ≡ branches_of xs ++ branches_of ys

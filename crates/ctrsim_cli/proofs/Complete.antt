@@ -1,5 +1,5 @@
 -- What the end of the top call says of each fault, and the other way round.
-use Rattle.std.proofs.Common.{◌≡◌, ◌⊎◌, inl, inr, ℕ, ◌<◌, List, [], Bool, true, false, None, Some, unwrap_or, refl, sym, ap, ◌∙◌, subst, arith}
+use Rattle.std.proofs.Common.{◌≡◌, ◌⊎◌, inl, inr, ℕ, ◌<◌, List, Bool, true, false, None, Some, refl, sym, ap, ◌∙◌, subst, arith}
 use Rattle.std.specs.declared.option.Option.{Option}
 use Rattle.std.specs.declared.string.String.{String}
 use Rattle.ctr_port.specs.Counts.{Rose}
@@ -9,15 +9,10 @@ use Rattle.ctrsim_cli.specs.Fault.{status_of}
 use Rattle.ctrsim_cli.specs.SmallForm.{Schedule, IsSmallForm}
 use Rattle.ctrsim_cli.specs.Step.{built}
 use Rattle.ctrsim_cli.specs.Lone.{lone, AllBuilt}
-use Rattle.ctrsim_cli.specs.Ended.{Says, Heard, StopsAtStep, IsRun, Done, CutShort, Stopped, Refused}
+use Rattle.ctrsim_cli.specs.Ended.{Heard, StopsAtStep, IsRun, Refused}
 use Rattle.ctrsim_cli.specs.Performed.{Ends, Ran, ReadCause, WriteCause}
 use Rattle.ctrsim_cli.proofs.Heard.{heard_all}
-
-none_some : {X : Type 0} (x : X) → None ≡ Some x → ⊥
-none_some x e = cc
-
-inner : (x y : List ℕ) → Some x ≡ Some y → x ≡ y
-inner x y e = ap (λ (o : Option (List ℕ)). unwrap_or o []) e
+use Rattle.ctrsim_cli.proofs.Options.{some_is_none, held_is}
 
 both : (b : Bool) → b ≡ true → b ≡ false → ⊥
 both b t f = cc
@@ -58,8 +53,8 @@ not_heard before now text b s is h broken =
 
 pub was_refused : {K : Type 0} (before : Option (List ℕ)) (gained : K → List ℕ → K → Type 0) (sink sink' : K) (b : List ℕ) (t : Schedule)
     → before ≡ Some b → Refused before gained sink sink' → IsSmallForm b t → ⊥
-was_refused None gained sink sink' b t is r form = absurd (none_some b is)
-was_refused (Some xs) gained sink sink' b t is r form = r.no_form t (subst (λ (x : List ℕ). IsSmallForm x t) (sym (inner xs b is)) form)
+was_refused None gained sink sink' b t is r form = absurd (some_is_none b is)
+was_refused (Some xs) gained sink sink' b t is r form = r.no_form t (subst (λ (x : List ℕ). IsSmallForm x t) (sym (held_is xs b is)) form)
 
 -- of two steps that each are the first that isn't built, neither comes before the other
 pub first_stop : (s : Schedule) (m n : ℕ) → StopsAtStep s m → StopsAtStep s n → m ≡ n

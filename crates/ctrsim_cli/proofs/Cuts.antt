@@ -1,5 +1,5 @@
 -- What a cut is: by the place of the byte that is cut at, and as the text before it and after it.
-use Rattle.std.proofs.Common.{◌≡◌, ℕ, suc, ◌+◌, ◌<◌, List, [], ◌∷◌, ◌++◌, None, Some, unwrap_or, Bool, true, false, not, cond, nat_eq, nat_lt, take, drop, length, All, refl, sym, ap, ◌∙◌, arith, eqb-true, eq-eqb}
+use Rattle.std.proofs.Common.{◌≡◌, ℕ, suc, ◌+◌, List, [], ◌∷◌, None, Some, unwrap_or, Bool, true, false, not, cond, nat_eq, nat_lt, take, drop, length, refl, sym, ap, ◌∙◌, arith}
 use Rattle.std.specs.List.{position_or_len, position}
 use Rattle.std.specs.declared.option.Option.{Option}
 use Rattle.ctrsim_cli.specs.Lines.{cut, before}
@@ -37,32 +37,13 @@ cut_position at (b ∷ rest) =
 abbrev pub pair : List ℕ → List ℕ → Option (List ℕ × List ℕ)
 pair front rest = Some (front, rest)
 
-pub some_is_none : {X : Type 0} (x : X) → None ≡ Some x → ⊥
-some_is_none x e = cc
-
-none_is : (x y : List ℕ) → None ≡ pair x y → ⊥
-none_is x y e = cc
-
 first_is : (a b x y : List ℕ) → pair a b ≡ pair x y → a ≡ x
 first_is a b x y e = ap (λ (o : Option (List ℕ × List ℕ)). (unwrap_or o ([], [])).0) e
-
-second_is : (a b x y : List ℕ) → pair a b ≡ pair x y → b ≡ y
-second_is a b x y e = ap (λ (o : Option (List ℕ × List ℕ)). (unwrap_or o ([], [])).1) e
 
 -- a text is cut in one way only
 pub same_front : (at : ℕ) (text other a b x y : List ℕ) → text ≡ other → cut at text ≡ pair a b → cut at other ≡ pair x y → a ≡ x
 same_front at text other a b x y same e f = first_is a b x y (sym e ∙ ap (cut at) same ∙ f)
 
-pub same_rest : (at : ℕ) (text other a b x y : List ℕ) → text ≡ other → cut at text ≡ pair a b → cut at other ≡ pair x y → b ≡ y
-same_rest at text other a b x y same e f = second_is a b x y (sym e ∙ ap (cut at) same ∙ f)
-
-pub uncut : {P : Type 0} (at : ℕ) (text other x y : List ℕ) → text ≡ other → cut at text ≡ None → cut at other ≡ pair x y → P
-uncut at text other x y same e f = absurd (none_is x y (sym e ∙ ap (cut at) same ∙ f))
-
 -- two names of one text are cut alike
 pub cut_alike : (at : ℕ) (text other x y : List ℕ) → text ≡ other → cut at other ≡ pair x y → cut at text ≡ pair x y
 cut_alike at text other x y same e = ap (cut at) same ∙ e
-
--- an answer isn't none and some at once
-pub not_both : {X P : Type 0} (o : Option X) (x : X) → o ≡ None → o ≡ Some x → P
-not_both o x none some = absurd (some_is_none x (sym none ∙ some))

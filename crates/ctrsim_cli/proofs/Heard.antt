@@ -1,18 +1,13 @@
 -- What a text of the small form says of the source that gave it.
-use Rattle.std.proofs.Common.{◌≡◌, ℕ, ◌<◌, ◌≤◌, ◌+◌, List, [], ◌++◌, length, None, Some, unwrap_or, IfSome, refl, sym, ap, ◌∙◌, subst, arith, append-nil, length-append}
+use Rattle.std.proofs.Common.{◌≡◌, ℕ, ◌<◌, ◌≤◌, List, [], ◌++◌, length, None, Some, IfSome, sym, ap, ◌∙◌, subst, arith, append-nil, length-append}
 use Rattle.std.specs.declared.option.Option.{Option}
 use Rattle.std.specs.Io.KnownBytes.{Consumes, IsAtEnd}
 use Rattle.ctrsim_cli.specs.declared.fault.Fault.{Fault}
 use Rattle.ctrsim_cli.specs.declared.fault.Fault.TheVariants.{Usage, ReadFault, WriteFault, Memory, NotBuilt, OtherForm}
 use Rattle.ctrsim_cli.specs.SmallForm.{Schedule, IsSmallForm}
 use Rattle.ctrsim_cli.specs.Ended.{Says, Heard}
+use Rattle.ctrsim_cli.proofs.Options.{some_is_none, held_is}
 use Rattle.ctrsim_cli.specs.Performed.{Answered, Ran}
-
-some_is_none : {X : Type 0} (x : X) → None ≡ Some x → ⊥
-some_is_none x e = cc
-
-the_same : (x y : List ℕ) → Some x ≡ Some y → x ≡ y
-the_same x y e = ap (λ (o : Option (List ℕ)). unwrap_or o []) e
 
 -- bytes that were all taken are those that were left
 pub all_taken : (b text rest : List ℕ) → b ≡ text ++ rest → rest ≡ [] → b ≡ text
@@ -32,7 +27,7 @@ refused (Some b) (Some rest) text given ended broken = λ s form.
 pub heard_all : (before now : Option (List ℕ)) (b text : List ℕ) → before ≡ Some b → Consumes before now text → IsAtEnd now → b ≡ text
 heard_all None now b text is given ended = absurd (some_is_none b is)
 heard_all (Some xs) None b text is given ended = absurd given
-heard_all (Some xs) (Some rest) b text is given ended = sym (the_same xs b is) ∙ all_taken xs text rest given ended
+heard_all (Some xs) (Some rest) b text is given ended = sym (held_is xs b is) ∙ all_taken xs text rest given ended
 
 -- what a text says is heard of the source that gave it
 pub heard : (before now : Option (List ℕ)) (text : List ℕ) (s : Schedule) → Consumes before now text → (length text < 8193 → IsAtEnd now) → Says text s → Heard before now text s

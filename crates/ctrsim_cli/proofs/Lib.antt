@@ -4,6 +4,7 @@ mod Cuts
 mod Decimals
 mod Digits
 mod Heard
+mod Options
 mod Pushes
 mod Runs
 mod Worked

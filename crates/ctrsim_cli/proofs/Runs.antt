@@ -1,11 +1,10 @@
 -- The machine's run and the lone run with its history.
-use Rattle.std.proofs.Common.{◌≡◌, ℕ, zero, suc, ◌<◌, List, [], ◌++◌, Bool, true, false, None, Some, fold, refl, sym, ap, ◌∙◌, subst}
+use Rattle.std.proofs.Common.{◌≡◌, ℕ, zero, suc, List, false, None, Some, fold, refl, sym, ap, ◌∙◌, subst}
 use Rattle.std.proofs.lemmas.List.Sums.{fold-append}
 use Rattle.std.specs.declared.option.Option.{Option}
 use Rattle.rv_decode.specs.declared.instruction.Instr.{Instr}
-use Rattle.perf_sample.specs.declared.sample.Sample.{Sample}
 use Rattle.ctrsim_cli.specs.State.{State, Entry, fresh, no_entries}
-use Rattle.ctrsim_cli.specs.Event.{Event, after, stack_of}
+use Rattle.ctrsim_cli.specs.Event.{after, stack_of}
 use Rattle.ctrsim_cli.specs.Step.{built, next, next_by, events_of, events_by, fetched}
 use Rattle.perf_sample.specs.Spelling.{spelling}
 use Rattle.ctrsim_cli.specs.Lone.{lone, advanced, AllBuilt, BuiltFrom, StopsAt}

@@ -1,5 +1,5 @@
 -- What an instruction does to the registers and the program counter (Unprivileged ISA, RV64I), for the instructions that are built.
-use Rattle.std.specs.Prelude.{ℕ, ◌+◌, ◌-◌, ◌%◌, ◌^◌, List, Bool, true, false, not, ◌&&◌, cond, nat_eq, slice_index, slice_set}
+use Rattle.std.specs.Prelude.{ℕ, ◌+◌, ◌-◌, ◌%◌, ◌^◌, List, Bool, true, false, not, cond, nat_eq, slice_index, slice_set}
 use Rattle.rv_decode.specs.declared.instruction.Instr.{Instr}
 use Rattle.rv_decode.specs.declared.instruction.Instr.TheVariants.{Jal, Jalr, Branch, AluImm}
 use Rattle.rv_decode.specs.declared.operations.Cond.{Cond}

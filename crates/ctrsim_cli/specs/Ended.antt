@@ -1,12 +1,9 @@
 -- What holds when the top call has ended, by its fault: the headline, over the part that is built.
-use Rattle.std.specs.Prelude.{◌≡◌, ℕ, ◌<◌, List, [], ◌∷◌, Bool, false, Option, None, Some, IfSome, codes, string_bytes}
+use Rattle.std.specs.Prelude.{◌≡◌, ℕ, ◌<◌, List, [], ◌∷◌, false, Option, IfSome, codes, string_bytes}
 use Rattle.std.specs.Io.KnownBytes.{Consumes, IsAtEnd}
 use Rattle.std.specs.declared.string.String.{String}
 use Rattle.perf_sample.specs.Spelling.{spelling}
-use Rattle.ctr_port.specs.Counts.{Rose}
 use Rattle.ctr_port.specs.Appended.{GainsPart}
-use Rattle.ctrsim_cli.specs.declared.fault.Fault.{Fault}
-use Rattle.ctrsim_cli.specs.declared.fault.Fault.TheVariants.{Usage, ReadFault, WriteFault, Memory, NotBuilt, OtherForm}
 use Rattle.ctrsim_cli.specs.SmallForm.{Schedule, IsSmallForm}
 use Rattle.ctrsim_cli.specs.Step.{built}
 use Rattle.ctrsim_cli.specs.Lone.{lone, AllBuilt}

@@ -1,5 +1,5 @@
 -- What the answers of the top call are called: their statuses, and what is said of a fault.
-use Rattle.std.specs.Prelude.{◌≡◌, ℕ, List, [], ◌∷◌, ◌++◌, Option, None, Some, codes}
+use Rattle.std.specs.Prelude.{ℕ, List, [], ◌∷◌, ◌++◌, Option, None, Some, codes}
 use Rattle.std.specs.Fmt.{decimal}
 use Rattle.ctrsim_cli.specs.declared.fault.Fault.{Fault}
 use Rattle.ctrsim_cli.specs.declared.fault.Fault.TheVariants.{Usage, ReadFault, WriteFault, Memory, NotBuilt, OtherForm}

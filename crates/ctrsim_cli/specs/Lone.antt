@@ -1,5 +1,5 @@
 -- The lone run of a task: its machine and its own history after each number of steps.
-use Rattle.std.specs.Prelude.{◌≡◌, ℕ, zero, suc, ◌<◌, List, [], ◌++◌, Bool, true, false}
+use Rattle.std.specs.Prelude.{◌≡◌, ℕ, zero, suc, ◌<◌, List, [], ◌++◌, true, false}
 use Rattle.ctrsim_cli.specs.State.{State, fresh}
 use Rattle.ctrsim_cli.specs.Event.{Event}
 use Rattle.ctrsim_cli.specs.Step.{built, next, events_of}

@@ -1,5 +1,5 @@
 -- One step of the machine, and which steps are built.
-use Rattle.std.specs.Prelude.{ℕ, ◌+◌, ◌-◌, ◌%◌, List, [], drop, fold, length, Bool, true, false, ◌&&◌, cond, nat_eq, nat_le, Option, None, Some}
+use Rattle.std.specs.Prelude.{ℕ, ◌+◌, ◌-◌, ◌%◌, List, [], drop, fold, length, Bool, false, ◌&&◌, cond, nat_eq, nat_le, Option, None, Some}
 use Rattle.byteorder.specs.Endian.{little_number}
 use Rattle.rv_decode.specs.declared.instruction.Instr.{Instr}
 use Rattle.rv_decode.specs.Rows.{decoded}

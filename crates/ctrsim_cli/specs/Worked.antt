@@ -1,6 +1,5 @@
 -- Lone runs worked out by hand.
 use Rattle.std.specs.Prelude.{ℕ, List, [], ◌∷◌}
-use Rattle.perf_sample.specs.declared.sample.Branch.{Branch}
 use Rattle.perf_sample.specs.declared.sample.Sample.{Sample}
 
 -- 008000EF, jal x1, 8

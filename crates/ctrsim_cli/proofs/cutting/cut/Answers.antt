@@ -1,4 +1,4 @@
-use Rattle.std.proofs.Common.{sym, ap, ◌∙◌, Some}
+use Rattle.std.proofs.Common.{sym, ap, ◌∙◌}
 use Rattle.ctrsim_cli.proofs.Cuts.{cut_position, parts_at}
 use Rattle.ctrsim_cli.proofs.cutting.cut.Goals as goal
 

@@ -1,4 +1,4 @@
-use Rattle.std.proofs.Common.{arith, take, length, slice_index_or, subst, sym, ap, ◌∙◌, All}
+use Rattle.std.proofs.Common.{arith, take, slice_index_or, subst, sym, All}
 use Rattle.std.proofs.lemmas.List.{take_more}
 use Rattle.std.proofs.lemmas.List.Elements.{All-push}
 use Rattle.ctrsim_cli.specs.Numbers.{IsDigit}

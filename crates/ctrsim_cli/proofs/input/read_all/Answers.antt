@@ -1,4 +1,4 @@
-use Rattle.std.proofs.Common.{arith, subst, sym, take, List, ℕ, ◌-◌, length}
+use Rattle.std.proofs.Common.{arith, subst, sym, ◌-◌, length}
 use Rattle.std.specs.Io.KnownBytes.{Consumes}
 use Rattle.ctr_port.proofs.Laws.{taken_then, read_more}
 use Rattle.ctrsim_cli.proofs.input.read_all.Goals as goal

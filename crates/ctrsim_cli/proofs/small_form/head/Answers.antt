@@ -1,6 +1,7 @@
 use Rattle.std.proofs.Common.{◌≡◌, sym, subst, List, ℕ}
 use Rattle.ctrsim_cli.specs.SmallForm.{IsTaskLine}
-use Rattle.ctrsim_cli.proofs.Cuts.{cut_alike, same_front, some_is_none}
+use Rattle.ctrsim_cli.proofs.Cuts.{cut_alike, same_front}
+use Rattle.ctrsim_cli.proofs.Options.{some_is_none}
 use Rattle.ctrsim_cli.proofs.small_form.head.Goals as goal
 
 pub returns-in_err-text-clause-only : goal.returns-in_err-text-clause-only

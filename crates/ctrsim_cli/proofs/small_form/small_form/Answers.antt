@@ -1,6 +1,6 @@
-use Rattle.std.proofs.Common.{◌≡◌, sym, subst, List, ℕ, length, drop, ap, ◌∙◌}
+use Rattle.std.proofs.Common.{sym, subst, List, ℕ, length, drop, ap, ◌∙◌}
 use Rattle.ctrsim_cli.specs.SmallForm.{IsTail}
-use Rattle.ctrsim_cli.proofs.Cuts.{some_is_none}
+use Rattle.ctrsim_cli.proofs.Options.{some_is_none}
 use Rattle.ctrsim_cli.proofs.small_form.small_form.Goals as goal
 
 pub returns-in_err-len-clause-only : goal.returns-in_err-len-clause-only

@@ -1,6 +1,7 @@
 use Rattle.std.proofs.Common.{◌≡◌, refl, sym, subst, List, ℕ}
 use Rattle.ctrsim_cli.specs.SmallForm.{IsRunLine}
-use Rattle.ctrsim_cli.proofs.Cuts.{same_front, some_is_none}
+use Rattle.ctrsim_cli.proofs.Cuts.{same_front}
+use Rattle.ctrsim_cli.proofs.Options.{some_is_none}
 use Rattle.ctrsim_cli.proofs.small_form.tail.Goals as goal
 
 pub returns-in_err-steps-clause-only : goal.returns-in_err-steps-clause-only
