@@ -7,11 +7,16 @@
 #![tactic(auto)]
 
 pub use hart::Hart;
+pub use harts::{Harts, Store};
+pub use laws::lone_run_laws;
 pub use memory::TaskMem;
 pub use processor::Core;
 
 mod effects;
+mod freshness;
 mod hart;
+mod harts;
+mod laws;
 mod memory;
 mod outcome;
 mod processor;

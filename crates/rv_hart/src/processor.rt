@@ -8,7 +8,7 @@ use std::marker::Model;
 
 /// The core of a hart: its registers, of which `x[0]` is 0; the program counter, a multiple of 4; the mode; and the
 /// registers of its software.
-#[derive(Drop)]
+#[derive(Clone, Debug, PartialEq, Eq, Drop)]
 pub struct Core {
     pub x: [u64; 32],
     pub pc: u64,
@@ -25,6 +25,8 @@ impl Model for Core {
     ghost view = { λ c. record { x = c.x; pc = c.pc; mode = c.mode; csrs = c.csrs } };
 
     ghost invariant = { λ c. (length c.x ≡ 32) × (slice_index c.x 0 ≡ 0) × (c.pc % 4 ≡ 0) };
+
+    ghost inverse = { λ c. record { x = c.x; pc = c.pc; mode = c.mode; csrs = c.csrs } };
 }
 
 impl Core {
