@@ -1,4 +1,5 @@
 ghost use Rattle.std.specs.Prelude.{◌≡◌, ◌+◌, ◌^◌, ◌<◌, ◌%◌, IsTrue, OnErr, cond};
+ghost use Rattle.std.specs.Bool.{OnTrue, OnFalse};
 ghost use Rattle.guest_modes.specs.Traps.{is_cause, is_trap_between, target_of, interrupt_taker};
 ghost use Rattle.guest_modes.specs.Words.{IsWithin};
 ghost use Rattle.indirect_regs.specs.Access.{accessed};
@@ -11,6 +12,7 @@ ghost use Rattle.rv_hart.specs.Effect.{effect, IsSound};
 ghost use Rattle.rv_hart.specs.State.{HartState, fresh_hart, live_of, ran, reached, SameRest, same_self, same_then};
 
 use crate::effects::execute;
+use crate::freshness::{is_fresh_core, is_fresh_unit};
 use crate::memory::TaskMem;
 use crate::outcome::Outcome;
 use crate::processor::Core;
@@ -55,6 +57,26 @@ impl<B: CtrStore> Hart<B> {
             count: 0,
             resident: None,
         }
+    }
+
+    // Whether it has done nothing.
+    pub(crate) fn is_fresh(&self) -> bool
+        ensures yes { OnTrue result (self.now ≡ fresh_hart) }
+        ensures no { OnFalse result (self.now ≡ fresh_hart → ⊥) }
+    {
+        if !is_fresh_core(&self.core) {
+            return false;
+        }
+        if !is_fresh_unit(&self.unit) {
+            return false;
+        }
+        if self.steps != 0 {
+            return false;
+        }
+        if self.count != 0 {
+            return false;
+        }
+        self.resident.is_none()
     }
 
     // Takes a trap.

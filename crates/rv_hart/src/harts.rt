@@ -1,4 +1,5 @@
-ghost use Rattle.std.specs.Prelude.{◌≡◌, ◌<◌, IfOk, Some, length, slice_get};
+ghost use Rattle.std.specs.Bool.{OnTrue, OnFalse};
+ghost use Rattle.std.specs.Prelude.{◌≡◌, ◌↔◌, ◌<◌, IsTrue, IfOk, Some, length, slice_get};
 ghost use Rattle.rv_hart.specs.State.{fresh_harts};
 
 use crate::hart::Hart;
@@ -45,6 +46,13 @@ impl Harts {
         Ok(Harts { list })
     }
 
+    /// Whether all of them have done nothing.
+    pub fn is_fresh(&self) -> bool
+        ensures { IsTrue result ↔ (self.now ≡ fresh_harts) }
+    {
+        are_fresh(self.list.as_slice())
+    }
+
     /// Hart `h`, which is below 16.
     pub fn hart(&self, h: usize) -> &Hart<Store>
         requires { h < 16 }
@@ -63,4 +71,24 @@ impl Harts {
     {
         &mut self.list[h]
     }
+}
+
+fn hart_at(list: &[Hart<Store>], i: usize) -> &Hart<Store>
+    requires { i < length list.now }
+    ensures { slice_get list.now i ≡ Some result.now }
+{
+    &list[i]
+}
+
+fn are_fresh(list: &[Hart<Store>]) -> bool
+    requires { length list.now ≡ 16 }
+    ensures yes { OnTrue result (list.now ≡ fresh_harts) }
+    ensures no { OnFalse result (list.now ≡ fresh_harts → ⊥) }
+{
+    for i in 0..16 {
+        if !hart_at(list, i).is_fresh() {
+            return false;
+        }
+    }
+    true
 }
