@@ -152,16 +152,32 @@ pub(crate) fn execute(core: &mut Core, mem: &mut TaskMem, instr: Instr, word: u3
             let sum = core.reg(rs1).wrapping_add(off);
             jump(core, class_of(instr, false), rd, sum - sum % 2)
         }
-        Instr::Branch { cond, rs1, rs2, off } => {
+        Instr::Branch {
+            cond,
+            rs1,
+            rs2,
+            off,
+        } => {
             let taken = taken(cond, core.reg(rs1), core.reg(rs2));
             let target = core.pc.wrapping_add(off);
             branch(core, taken, class_of(instr, taken), target)
         }
-        Instr::Load { width, signed, rd, rs1, off } => {
+        Instr::Load {
+            width,
+            signed,
+            rd,
+            rs1,
+            off,
+        } => {
             let address = core.reg(rs1).wrapping_add(off);
             load(core, mem, width, signed, rd, address)
         }
-        Instr::Store { width, rs1, rs2, off } => {
+        Instr::Store {
+            width,
+            rs1,
+            rs2,
+            off,
+        } => {
             let address = core.reg(rs1).wrapping_add(off);
             store(core, mem, width, core.reg(rs2), address)
         }

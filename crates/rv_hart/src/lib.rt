@@ -20,4 +20,6 @@ mod laws;
 mod memory;
 mod outcome;
 mod processor;
+#[cfg(test)]
+mod tests;
 mod transfers;
