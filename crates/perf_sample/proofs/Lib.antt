@@ -1,1 +1,5 @@
 pub mod SpellingLaws
+pub mod ReadingLaws
+pub mod BreakLaws
+pub mod NumberLaws
+pub mod BranchLaws

@@ -1,3 +1,5 @@
 pub mod Layout
 pub mod Spelling
+pub mod Breaks
+pub mod Reading
 pub mod PerfType
