@@ -1,7 +1,8 @@
 -- The first broken field, field by field.
-use Rattle.std.proofs.Common.{◌≡◌, ℕ, zero, suc, ◌+◌, ◌*◌, ◌-◌, ◌%◌, ◌^◌, ◌<◌, ◌≤◌, List, [], ◌∷◌, ◌++◌, length, drop, Bool, true, false, if◌then◌else◌, nat_eq, nat_lt, nat_le, Option, Some, None, refl, sym, ap, ◌∙◌, subst, arith, length-append, append_assoc, lt-ltb, le-ltb}
+use Rattle.std.proofs.Common.{◌≡◌, ◌≢◌, ℕ, zero, suc, ◌+◌, ◌*◌, ◌-◌, ◌%◌, ◌^◌, ◌<◌, ◌≤◌, List, [], ◌∷◌, ◌++◌, length, drop, Bool, true, false, if◌then◌else◌, nat_eq, nat_lt, nat_le, Option, Some, None, refl, sym, ap, ◌∙◌, subst, arith, length-append, append_assoc, lt-ltb, le-ltb}
 use Rattle.std.proofs.Math.Seq.{drop-append_seam}
 use Rattle.std.proofs.lemmas.Bool.{true≢false, false≢true, ltb-true}
+use Rattle.byteorder.specs.Endian.{little_number}
 use Rattle.byteorder.specs.Numbers.{length-bytes_low_first, little_number-reads_back}
 use Rattle.perf_sample.specs.Spelling.{le}
 use Rattle.perf_sample.specs.Breaks.{number_at, Field, At, cut_in, wrong_in, fault_in, or_on, first_of}
@@ -49,3 +50,22 @@ length_le k n = length-bytes_low_first 0 k n
 pub number_read : (k n : ℕ) (z : List ℕ) → n < 256 ^ k → number_at 0 k (le k n ++ z) ≡ n
 unfolding le number_at
 number_read k n z small = little_number-reads_back k n z small
+
+pub number_behind : (at k n : ℕ) (y z : List ℕ) → length y ≡ at → n < 256 ^ k → number_at at k (y ++ (le k n ++ z)) ≡ n
+unfolding number_at le
+number_behind at k n y z len small = ap (little_number k) (behind y (le k n ++ z) at len) ∙ little_number-reads_back k n z small
+
+-- what breaks among some fields breaks among those and others behind them
+early_by : (w : Option SampleFault) (rest : List ℕ) (n m : Found) (r : SampleFault × List ℕ) → (n ≡ Some r → m ≡ Some r) → or_on w rest n ≡ Some r → or_on w rest m ≡ Some r
+early_by None rest n m r next e = next e
+early_by (Some f) rest n m r next e = e
+
+pub early : (layout size : ℕ) (ps qs : List Field) (bytes : List ℕ) (r : SampleFault × List ℕ) → first_of layout size ps bytes ≡ Some r → first_of layout size (ps ++ qs) bytes ≡ Some r
+unfolding first_of
+early layout size [] qs bytes r e = absurd cc
+early layout size (p ∷ ps) qs bytes r e =
+    early_by (fault_in layout size p bytes) (drop 8 bytes) (first_of layout size ps (drop 8 bytes)) (first_of layout size (ps ++ qs) (drop 8 bytes)) r (early layout size ps qs (drop 8 bytes) r) e
+
+pub not_empty : (y z : List ℕ) → 0 < length y → y ++ z ≢ []
+not_empty [] z some e = omega (arith, some)
+not_empty (b ∷ y) z some e = absurd cc

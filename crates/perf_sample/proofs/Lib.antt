@@ -3,3 +3,5 @@ pub mod ReadingLaws
 pub mod BreakLaws
 pub mod NumberLaws
 pub mod BranchLaws
+pub mod HeaderLaws
+pub mod RowLaws

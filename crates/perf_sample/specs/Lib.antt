@@ -2,4 +2,5 @@ pub mod Layout
 pub mod Spelling
 pub mod Breaks
 pub mod Reading
+pub mod Rows
 pub mod PerfType

@@ -7,10 +7,12 @@ mod branch;
 mod branches;
 mod faults;
 mod fields;
+mod header;
 mod laws;
 mod layout;
 mod numbers;
 mod perf_types;
+mod rows;
 mod sample;
 mod writing;
 
