@@ -23,7 +23,7 @@ pub length_header : (kind misc size : ℕ) → length (any_header kind misc size
 length_header kind misc size =
     omega (arith, length-append (le 4 kind ++ le 2 misc) (le 2 size), length-append (le 4 kind) (le 2 misc), length_le 4 kind, length_le 2 misc, length_le 2 size)
 
-kind_read : (kind misc size : ℕ) (z : List ℕ) → kind < 2 ^ 32 → number_at 0 4 (any_header kind misc size ++ z) ≡ kind
+pub kind_read : (kind misc size : ℕ) (z : List ℕ) → kind < 2 ^ 32 → number_at 0 4 (any_header kind misc size ++ z) ≡ kind
 kind_read kind misc size z small =
     ap (number_at 0 4) (append_assoc (le 4 kind ++ le 2 misc) (le 2 size) z ∙ append_assoc (le 4 kind) (le 2 misc) (le 2 size ++ z)) ∙ number_read 4 kind (le 2 misc ++ (le 2 size ++ z)) small
 

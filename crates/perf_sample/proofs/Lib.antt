@@ -5,3 +5,4 @@ pub mod NumberLaws
 pub mod BranchLaws
 pub mod HeaderLaws
 pub mod RowLaws
+pub mod SampleLaws

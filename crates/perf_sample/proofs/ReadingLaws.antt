@@ -5,7 +5,7 @@ use Rattle.std.proofs.lemmas.List.{length-take, length-take-le, length-drop, dro
 use borrow.Rule.Slice.PartMut.{put_mid, post_of}
 use Rattle.ctr_port.specs.InHand.{Of}
 use Rattle.ctr_port.proofs.Laws.{taken_nothing, taken_then}
-use Rattle.perf_sample.specs.Reading.{is_read_fault, StoppedBy, Stopped, cut_at, IsCut}
+use Rattle.perf_sample.specs.Reading.{Cause, OfRead, OfCount, OfBytes, cause_of, StoppedBy, Stopped, cut_at, IsCut}
 use Rattle.perf_sample.specs.declared.faults.SampleFault.{SampleFault}
 use Rattle.perf_sample.specs.declared.faults.SampleFault.TheVariants as fault
 use Rattle.perf_sample.specs.declared.faults.Place.{Place}
@@ -35,18 +35,19 @@ read_length at k buf ys within room len =
     omega (arith, within, room, len, part, all, ap length none, length-take-le at buf within, length-append front (ys ++ rest), length-append ys rest)
 
 -- bytes that are cut short within what follows others are cut short
-stopped_by : (s : Bool) (a b c : Option (List ℕ)) (y : List ℕ) (p q : List ℕ → Option (SampleFault × List ℕ)) (f : SampleFault) → Consumes a b y
+stopped_by : (s : Cause) (a b c : Option (List ℕ)) (y : List ℕ) (p q : List ℕ → Option (SampleFault × List ℕ)) (f : SampleFault) → Consumes a b y
     → ((z : List ℕ) (r : SampleFault × List ℕ) → p z ≡ Some r → q (y ++ z) ≡ Some r) → StoppedBy s p b c f → StoppedBy s q a c f
-stopped_by true a b c y p q f took all (x, then, (g, short, e)) = (y ++ x, taken_then a b c y x took then, (g, short, all x (g, []) e))
-stopped_by false None b c y p q f took all h = tt
-stopped_by false (Some t) None c y p q f took all h = absurd took
-stopped_by false (Some t) (Some u) None y p q f took all h = absurd h
-stopped_by false (Some t) (Some u) (Some v) y p q f took all h = rw took (all u (f, v) h)
+stopped_by OfCount a b c y p q f took all h = absurd h
+stopped_by OfRead a b c y p q f took all (x, then, (g, short, e)) = (y ++ x, taken_then a b c y x took then, (g, short, all x (g, []) e))
+stopped_by OfBytes None b c y p q f took all h = tt
+stopped_by OfBytes (Some t) None c y p q f took all h = absurd took
+stopped_by OfBytes (Some t) (Some u) None y p q f took all h = absurd h
+stopped_by OfBytes (Some t) (Some u) (Some v) y p q f took all h = rw took (all u (f, v) h)
 
 -- reading stopped in fields that follow others
 pub stopped_after : (a b c : Option (List ℕ)) (y : List ℕ) (p q : List ℕ → Option (SampleFault × List ℕ)) (f : SampleFault) → Consumes a b y
     → ((z : List ℕ) (r : SampleFault × List ℕ) → p z ≡ Some r → q (y ++ z) ≡ Some r) → Stopped p b c f → Stopped q a c f
-stopped_after a b c y p q f took all h = stopped_by (is_read_fault f) a b c y p q f took all h
+stopped_after a b c y p q f took all h = stopped_by (cause_of f) a b c y p q f took all h
 
 -- the same where nothing comes before
 pub stopped_as : (a b : Option (List ℕ)) (p q : List ℕ → Option (SampleFault × List ℕ)) (f : SampleFault)

@@ -274,7 +274,7 @@ is_row p = true
 abbrev pub IsRow : Row → Type 0
 IsRow r = is_row r.1 ≡ true
 
-all_rows : All IsRow rows
+pub all_rows : All IsRow rows
 all_rows = All-from_recursion IsRow rows (refl, (refl, (refl, (refl, (refl, (refl, (refl, (refl, (refl, tt)))))))))
 
 two_halves : (m n : ℕ) → length (le 4 m ++ le 4 n) ≡ 8

@@ -25,7 +25,7 @@ length_one layout place n = length_present layout place (le 8 n) (length_le 8 n)
 length_two : (layout place m n : ℕ) → length (present layout place (le 4 m ++ le 4 n)) ≡ width layout place
 length_two layout place m n = length_present layout place (le 4 m ++ le 4 n) (omega (arith, length-append (le 4 m) (le 4 n), length_le 4 m, length_le 4 n))
 
-length_fields : (layout : ℕ) (s : Sample) → length (fields layout s) ≡ fields_len layout
+pub length_fields : (layout : ℕ) (s : Sample) → length (fields layout s) ≡ fields_len layout
 unfolding fields fields_len
 length_fields layout s =
     let a = present layout 16 (le 8 s.identifier) in

@@ -22,9 +22,16 @@ TakesField left left' (Ok bytes) = Consumes left left' bytes
 TakesField left left' (Err (stop.Ended n)) = (x : List ℕ) × (length x ≡ n) × (n < 8) × Consumes left left' x × IsAtEnd left'
 TakesField left left' (Err stop.Failed) = (x : List ℕ) × (length x < 8) × Consumes left left' x
 
-abbrev pub is_read_fault : SampleFault → Bool
-is_read_fault fault.ReadFault = true
-is_read_fault _ = false
+-- what a fault comes from: a read, the number of samples, or their bytes
+pub data Cause : Type 0 where
+  OfRead : Cause
+  OfCount : Cause
+  OfBytes : Cause
+
+abbrev pub cause_of : SampleFault → Cause
+cause_of fault.ReadFault = OfRead
+cause_of fault.TooMany = OfCount
+cause_of _ = OfBytes
 
 -- a field is cut short
 abbrev pub is_short : SampleFault → Bool
@@ -36,13 +43,14 @@ is_short _ = false
 abbrev pub IsCut : (List ℕ → Option (SampleFault × List ℕ)) → List ℕ → Type 0
 IsCut broken bytes = (f : SampleFault) × (is_short f ≡ true) × (broken bytes ≡ Some (f, []))
 
-abbrev pub StoppedBy : Bool → (List ℕ → Option (SampleFault × List ℕ)) → Option (List ℕ) → Option (List ℕ) → SampleFault → Type 0
-StoppedBy true broken left left' f = (x : List ℕ) × Consumes left left' x × IsCut broken x
-StoppedBy false broken left left' f = Of left left' (λ t t'. broken t ≡ Some (f, t'))
+abbrev pub StoppedBy : Cause → (List ℕ → Option (SampleFault × List ℕ)) → Option (List ℕ) → Option (List ℕ) → SampleFault → Type 0
+StoppedBy OfRead broken left left' f = (x : List ℕ) × Consumes left left' x × IsCut broken x
+StoppedBy OfCount broken left left' f = ⊥
+StoppedBy OfBytes broken left left' f = Of left left' (λ t t'. broken t ≡ Some (f, t'))
 
 -- reading stopped at the first of some fields that is broken, and took the bytes up to its end; or a read failed in a field
 abbrev pub Stopped : (List ℕ → Option (SampleFault × List ℕ)) → Option (List ℕ) → Option (List ℕ) → SampleFault → Type 0
-Stopped broken left left' f = StoppedBy (is_read_fault f) broken left left' f
+Stopped broken left left' f = StoppedBy (cause_of f) broken left left' f
 
 -- bytes that end in this field or in its place
 abbrev pub cut_at : Field → List ℕ → Option (SampleFault × List ℕ)
@@ -81,13 +89,14 @@ header_bytes misc size = le 4 9 ++ le 2 misc ++ le 2 size
 abbrev pub IsPartial : ℕ → List ℕ → Type 0
 IsPartial layout bytes = (bytes ≡ []) ⊎ ((f : SampleFault) × (is_short f ≡ true) × Breaks layout bytes f [])
 
-abbrev pub BrokeBy : Bool → ℕ → Option (List ℕ) → Option (List ℕ) → SampleFault → Type 0
-BrokeBy true layout left left' f = (x : List ℕ) × Consumes left left' x × IsPartial layout x
-BrokeBy false layout left left' f = Of left left' (λ t t'. Breaks layout t f t')
+abbrev pub BrokeBy : Cause → ℕ → Option (List ℕ) → Option (List ℕ) → SampleFault → Type 0
+BrokeBy OfRead layout left left' f = (x : List ℕ) × Consumes left left' x × IsPartial layout x
+BrokeBy OfCount layout left left' f = ⊥
+BrokeBy OfBytes layout left left' f = Of left left' (λ t t'. Breaks layout t f t')
 
 -- a sample broke at the first broken field, and the bytes up to its end were taken; or a read failed in a field
 abbrev pub Broke : ℕ → Option (List ℕ) → Option (List ℕ) → SampleFault → Type 0
-Broke layout left left' f = BrokeBy (is_read_fault f) layout left left' f
+Broke layout left left' f = BrokeBy (cause_of f) layout left left' f
 
 -- a header was taken, or there is none
 abbrev pub TakesHeader : ℕ → Option (List ℕ) → Option (List ℕ) → Result (Option Header) SampleFault → Type 0

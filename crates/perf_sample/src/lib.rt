@@ -14,6 +14,7 @@ mod numbers;
 mod perf_types;
 mod rows;
 mod sample;
+mod whole;
 mod writing;
 
 pub use branches::Branches;
