@@ -3,4 +3,5 @@ pub mod Spelling
 pub mod Breaks
 pub mod Reading
 pub mod Rows
+pub mod Reader
 pub mod PerfType

@@ -12,6 +12,7 @@ mod laws;
 mod layout;
 mod numbers;
 mod perf_types;
+mod reader;
 mod rows;
 mod sample;
 mod whole;
@@ -22,6 +23,7 @@ pub use faults::{Place, SampleFault};
 pub use laws::no_proper_prefix;
 pub use layout::Layout;
 pub use perf_types::perf_type;
+pub use reader::SampleReader;
 pub use sample::{Branch, Sample};
 pub use writing::{Buffer, encode};
 
