@@ -1,7 +1,8 @@
 //! A branch, read field by field.
 
-ghost use Rattle.std.specs.Prelude.{◌≡◌, ◌≤◌};
+ghost use Rattle.std.specs.Prelude.{◌≡◌, ◌≤◌, All, IfOk};
 ghost use Rattle.ctr_port.specs.Counts.{Rose};
+ghost use Rattle.perf_sample.specs.Range.{IsBranch};
 ghost use Rattle.perf_sample.specs.Reading.{TakesPlace, TakesNumber, TakesBranch, TakesBranches, TakesNr};
 
 use crate::branches::Branches;
@@ -41,6 +42,7 @@ pub(crate) fn read_number<S: Source>(source: &mut S, place: Place) -> Result<u64
 /// Reads the branch of this number.
 pub(crate) fn read_branch<S: Source>(source: &mut S, number: u16) -> Result<Branch, SampleFault>
     ensures takes { TakesBranch number (S.left source.old) (S.left source.new) result }
+    ensures range { IfOk result IsBranch }
     ensures later { S.faults source.old ≤ S.faults source.new }
     ensures cause { result ≡ Err SampleFault.ReadFault → Rose (S.faults source.old) (S.faults source.new) }
 {
@@ -57,6 +59,7 @@ pub(crate) fn read_branch<S: Source>(source: &mut S, number: u16) -> Result<Bran
 pub(crate) fn read_branches<S: Source>(source: &mut S, nr: u16) -> Result<Branches, SampleFault>
     requires { nr ≤ 256 }
     ensures takes { TakesBranches nr (S.left source.old) (S.left source.new) result }
+    ensures range { IfOk result (All IsBranch) }
     ensures later { S.faults source.old ≤ S.faults source.new }
     ensures cause { result ≡ Err SampleFault.ReadFault → Rose (S.faults source.old) (S.faults source.new) }
 {

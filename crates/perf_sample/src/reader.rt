@@ -1,8 +1,9 @@
 //! Samples read from their source, call by call.
 
-ghost use Rattle.std.specs.Prelude.{◌≡◌, ℕ, ◌≤◌, ◌<◌, Some, None, length};
+ghost use Rattle.std.specs.Prelude.{◌≡◌, ℕ, ◌≤◌, ◌<◌, Some, None, length, IfOk, IfSome};
 ghost use Rattle.ctr_port.specs.Counts.{Rose};
 ghost use Rattle.perf_sample.specs.Spelling.{spelling};
+ghost use Rattle.perf_sample.specs.Range.{IsSample};
 ghost use Rattle.perf_sample.specs.Reader.{fresh, most, Nexted, after};
 
 use crate::faults::SampleFault;
@@ -48,6 +49,7 @@ fn length_of(layout: Layout, sample: &Sample) -> u64
 // Looks for a byte behind the last sample that is given.
 fn look_past<S: Source>(source: &mut S) -> Result<Option<Sample>, SampleFault>
     ensures nexted { (layout : ℕ) → Nexted layout most (S.left source.old) (S.left source.new) result }
+    ensures none { IfOk result (λ next. next ≡ None) }
     ensures later { S.faults source.old ≤ S.faults source.new }
     ensures cause { result ≡ Err SampleFault.ReadFault → Rose (S.faults source.old) (S.faults source.new) }
 {
@@ -67,6 +69,7 @@ fn read_next<S: Source>(
 ) -> Result<Option<Sample>, SampleFault>
     requires { given ≤ most }
     ensures nexted { Nexted layout given (S.left source.old) (S.left source.new) result }
+    ensures range { IfOk result (λ next. IfSome next IsSample) }
     ensures later { S.faults source.old ≤ S.faults source.new }
     ensures cause { result ≡ Err SampleFault.ReadFault → Rose (S.faults source.old) (S.faults source.new) }
 {

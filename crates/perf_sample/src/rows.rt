@@ -3,6 +3,7 @@
 ghost use Rattle.std.specs.Prelude.{◌≡◌, ◌≤◌, [], true, OnOk};
 ghost use Rattle.ctr_port.specs.Counts.{Rose};
 ghost use Rattle.perf_sample.specs.Layout.{has, Fits};
+ghost use Rattle.perf_sample.specs.Range.{IsSample};
 ghost use Rattle.perf_sample.specs.Rows.{PutsIn, TakesRow, TakesRows};
 
 use crate::branch::read_place;
@@ -27,7 +28,8 @@ const ROWS: [(u32, Place); 9] = [
 
 // Puts the bytes of a field of the table into the sample.
 fn put_in(sample: &mut Sample, place: Place, bytes: &[u8; 8]) -> Result<(), SampleFault>
-    ensures { PutsIn place bytes.now sample.old sample.new result }
+    ensures puts { PutsIn place bytes.now sample.old sample.new result }
+    ensures range { IsSample sample.old → IsSample sample.new }
 {
     match place {
         Place::Identifier => sample.identifier = number(bytes),
@@ -61,6 +63,7 @@ fn read_row<S: Source>(
     sample: &mut Sample,
 ) -> Result<(), SampleFault>
     ensures takes { TakesRow place (S.left source.old) (S.left source.new) sample.old sample.new result }
+    ensures range { IsSample sample.old → IsSample sample.new }
     ensures later { S.faults source.old ≤ S.faults source.new }
     ensures cause { result ≡ Err SampleFault.ReadFault → Rose (S.faults source.old) (S.faults source.new) }
 {
@@ -76,6 +79,7 @@ pub(crate) fn read_rows<S: Source>(
 ) -> Result<(), SampleFault>
     requires { Fits layout sample.old }
     ensures takes { TakesRows layout (S.left source.old) (S.left source.new) sample.old sample.new result }
+    ensures range { IsSample sample.old → IsSample sample.new }
     ensures later { S.faults source.old ≤ S.faults source.new }
     ensures cause { result ≡ Err SampleFault.ReadFault → Rose (S.faults source.old) (S.faults source.new) }
 {

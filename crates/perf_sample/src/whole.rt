@@ -1,7 +1,8 @@
 //! A whole sample, read from left to right.
 
-ghost use Rattle.std.specs.Prelude.{◌≡◌, ◌≤◌};
+ghost use Rattle.std.specs.Prelude.{◌≡◌, ◌≤◌, IfOk, IfSome};
 ghost use Rattle.ctr_port.specs.Counts.{Rose};
+ghost use Rattle.perf_sample.specs.Range.{IsSample};
 ghost use Rattle.perf_sample.specs.Reading.{TakesSample};
 
 use crate::branch::{read_branches, read_nr};
@@ -19,6 +20,7 @@ pub(crate) fn read_sample<S: Source>(
     layout: Layout,
 ) -> Result<Option<Sample>, SampleFault>
     ensures takes { TakesSample layout (S.left source.old) (S.left source.new) result }
+    ensures range { IfOk result (λ next. IfSome next IsSample) }
     ensures later { S.faults source.old ≤ S.faults source.new }
     ensures cause { result ≡ Err SampleFault.ReadFault → Rose (S.faults source.old) (S.faults source.new) }
 {

@@ -10,4 +10,4 @@ returns-in_err-bytes-clause-takes g c =
 pub returns-clause-takes : goal.returns-clause-takes
 returns-clause-takes g c =
     row_put c.put_in.result (g.S.Source.left c.args.source.now) (g.S.Source.left c.read_place.new.source) c.args.place c.in_ok-bytes.bytes c.args.sample.now c.put_in.new.sample
-    c.in_ok-bytes.ensures.takes c.put_in.ensures
+    c.in_ok-bytes.ensures.takes c.put_in.ensures.puts

@@ -29,6 +29,7 @@ loop-bit-preserved g c =
             fits = kept.fits;
             misc = kept.misc ∙ done.misc;
             branches = kept.branches ∙ done.branches;
+            range = λ is. w.in_ok-read_row.ensures.range (done.range is);
             later = omega (arith, done.later, w.in_ok-read_row.ensures.later);
           })
       | else-has w ↦
@@ -42,6 +43,7 @@ loop-bit-preserved g c =
             fits = done.fits;
             misc = done.misc;
             branches = done.branches;
+            range = done.range;
             later = done.later;
           })
     ]
