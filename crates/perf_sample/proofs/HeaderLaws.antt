@@ -51,7 +51,7 @@ header_stops layout kind misc size z f small_kind small_size wrong =
       some = not_empty y z (omega (arith, length_header kind misc size));
       first =
           stops layout (number_at 6 2 at) Header (flat_map (row_fields layout) rows ++ At place.Nr ∷ branch_fields 0 (number_at (fixed_len layout - 8) 8 at)) y z f
-              (length_header kind misc size) seen;
+          (length_header kind misc size) seen;
     }
 
 -- the input ended in a header

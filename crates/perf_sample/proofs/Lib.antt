@@ -6,3 +6,5 @@ pub mod BranchLaws
 pub mod HeaderLaws
 pub mod RowLaws
 pub mod SampleLaws
+pub mod OneSpelling
+pub mod ExactLaws

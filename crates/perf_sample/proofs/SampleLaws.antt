@@ -66,7 +66,7 @@ behind_rows layout misc size s z small right =
     ∙ rows_pass layout size rows s fs z all_rows
 
 -- behind the number of branches
-behind_nr : (layout misc size nr : ℕ) (s : Sample) (z : List ℕ) → size < 2 ^ 16 → is_size layout size ≡ true → nr ≤ 256 → size ≡ fixed_len layout + 24 * nr
+pub behind_nr : (layout misc size nr : ℕ) (s : Sample) (z : List ℕ) → size < 2 ^ 16 → is_size layout size ≡ true → nr ≤ 256 → size ≡ fixed_len layout + 24 * nr
     → first_break layout (((header_bytes misc size ++ fields layout s) ++ le 8 nr) ++ z) ≡ first_of layout size (branch_fields 0 nr) z
 unfolding fixed_len
 behind_nr layout misc size nr s z small right few sized =
@@ -78,7 +78,7 @@ behind_nr layout misc size nr s z small right few sized =
     ∙ behind_rows layout misc size s (le 8 nr ++ z) small right
     ∙ ap (λ (n : ℕ). first_of layout size (At place.Nr ∷ branch_fields 0 n) (le 8 nr ++ z)) told
     ∙ passes layout size (At place.Nr) (branch_fields 0 nr) (le 8 nr) z (length_le 8 nr)
-        (rw (number_read 8 nr z (omega (arith, few)), le-leb nr 256 few, eq-eqb size (fixed_len layout + 24 * nr) sized) refl)
+    (rw (number_read 8 nr z (omega (arith, few)), le-leb nr 256 few, eq-eqb size (fixed_len layout + 24 * nr) sized) refl)
 
 -- what breaks in each part of a sample breaks the sample
 pub breaks_in_rows : (layout misc size : ℕ) → size < 2 ^ 16 → is_size layout size ≡ true → (z : List ℕ) (r : SampleFault × List ℕ) → first_of layout size (flat_map (row_fields layout) rows) z ≡ Some r

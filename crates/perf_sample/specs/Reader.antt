@@ -50,3 +50,7 @@ abbrev pub after : Reader → Result (Option Sample) SampleFault → Reader
 after r (Ok None) = r
 after r (Ok (Some s)) = record r { given = r.given + 1; taken = r.taken + length (spelling r.layout s); offset = r.taken }
 after r (Err f) = record r { refused = Some f; offset = r.taken }
+
+-- this is the answer, unless a read failed
+abbrev pub Answers : Result (Option Sample) SampleFault → Result (Option Sample) SampleFault → Type 0
+Answers result answer = (result ≡ answer) ⊎ (result ≡ Err fault.ReadFault)

@@ -11,7 +11,6 @@ use crate::fields::{Stop, read_field};
 use crate::layout::Layout;
 use crate::numbers::number;
 use crate::sample::Branch;
-
 use ctr_port::Source;
 
 /// Reads the field of a place.

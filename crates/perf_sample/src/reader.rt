@@ -1,10 +1,13 @@
 //! Samples read from their source, call by call.
 
-ghost use Rattle.std.specs.Prelude.{◌≡◌, ℕ, ◌≤◌, ◌<◌, Some, None, length, IfOk, IfSome};
+ghost use Rattle.std.specs.Prelude.{◌≡◌, ℕ, ◌≤◌, ◌<◌, List, [], ◌∷◌, ◌++◌, Some, None, length, IfOk, IfSome};
 ghost use Rattle.ctr_port.specs.Counts.{Rose};
-ghost use Rattle.perf_sample.specs.Spelling.{spelling};
+ghost use Rattle.perf_sample.specs.Spelling.{spelling, Spells};
+ghost use Rattle.perf_sample.specs.Breaks.{Breaks};
+ghost use Rattle.perf_sample.specs.declared.sample.Sample.{Sample};
+ghost use Rattle.perf_sample.specs.declared.faults.SampleFault.{SampleFault};
 ghost use Rattle.perf_sample.specs.Range.{IsSample};
-ghost use Rattle.perf_sample.specs.Reader.{fresh, most, Nexted, after};
+ghost use Rattle.perf_sample.specs.Reader.{fresh, most, Nexted, after, Answers};
 
 use crate::faults::SampleFault;
 use crate::layout::Layout;
@@ -102,18 +105,14 @@ impl SampleReader {
         self.offset
     }
 
-    /// The next sample, or none where the input ended between two samples. It reads field by field, and asks the source for no
-    /// byte beyond the field in hand.
-    pub fn next<S: Source>(&mut self, source: &mut S) -> Result<Option<Sample>, SampleFault>
-        ensures nexted { self.old.refused ≡ None → Nexted self.old.layout self.old.given (S.left source.old) (S.left source.new) result }
-        ensures after { self.old.refused ≡ None → self.new ≡ after self.old result }
-        ensures again { (fault : SampleFault) → self.old.refused ≡ Some fault → (result ≡ Err fault) × (self.new ≡ self.old) × (source.new ≡ source.old) }
+    // The next answer of a reader that has refused nothing.
+    fn answer<S: Source>(&mut self, source: &mut S) -> Result<Option<Sample>, SampleFault>
+        ensures nexted { Nexted self.old.layout self.old.given (S.left source.old) (S.left source.new) result }
+        ensures range { IfOk result (λ next. IfSome next IsSample) }
+        ensures after { self.new ≡ after self.old result }
         ensures later { S.faults source.old ≤ S.faults source.new }
-        ensures cause { self.old.refused ≡ None → result ≡ Err SampleFault.ReadFault → Rose (S.faults source.old) (S.faults source.new) }
+        ensures cause { result ≡ Err SampleFault.ReadFault → Rose (S.faults source.old) (S.faults source.new) }
     {
-        if let Some(fault) = self.refused {
-            return Err(fault);
-        }
         match read_next(source, self.layout, self.given) {
             Ok(next) => match next {
                 Some(sample) => {
@@ -130,5 +129,28 @@ impl SampleReader {
                 Err(fault)
             }
         }
+    }
+
+    /// The next sample, or none where the input ended between two samples. It reads field by field, and asks the source for no
+    /// byte beyond the field in hand. After a fault it answers it again, without a read.
+    pub fn next<S: Source>(&mut self, source: &mut S) -> Result<Option<Sample>, SampleFault>
+        ensures nexted { self.old.refused ≡ None → Nexted self.old.layout self.old.given (S.left source.old) (S.left source.new) result }
+        ensures after { self.old.refused ≡ None → self.new ≡ after self.old result }
+        ensures again { (fault : SampleFault) → self.old.refused ≡ Some fault → (result ≡ Err fault) × (self.new ≡ self.old) × (source.new ≡ source.old) }
+        ensures later { S.faults source.old ≤ S.faults source.new }
+        ensures cause { self.old.refused ≡ None → result ≡ Err SampleFault.ReadFault → Rose (S.faults source.old) (S.faults source.new) }
+        // Of a source that tells its bytes each answer comes wherever its cause is there.
+        ensures none { self.old.refused ≡ None → S.left source.old ≡ Some [] → Answers result (Ok None) }
+        ensures sample { (s : Sample) (bytes rest : List ℕ) → self.old.refused ≡ None → self.old.given < most → IsSample s → Spells self.old.layout s bytes
+            → S.left source.old ≡ Some (bytes ++ rest) → Answers result (Ok (Some s)) }
+        ensures broken { (fault : SampleFault) (bytes rest : List ℕ) → self.old.refused ≡ None → self.old.given < most → Breaks self.old.layout bytes fault rest
+            → S.left source.old ≡ Some bytes → Answers result (Err fault) }
+        ensures too_many { (byte : ℕ) (rest : List ℕ) → self.old.refused ≡ None → self.old.given ≡ most → S.left source.old ≡ Some (byte ∷ rest)
+            → Answers result (Err SampleFault.TooMany) }
+    {
+        if let Some(fault) = self.refused {
+            return Err(fault);
+        }
+        self.answer(source)
     }
 }

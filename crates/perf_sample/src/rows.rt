@@ -57,11 +57,7 @@ fn put_in(sample: &mut Sample, place: Place, bytes: &[u8; 8]) -> Result<(), Samp
 }
 
 // Reads a field of the table into the sample.
-fn read_row<S: Source>(
-    source: &mut S,
-    place: Place,
-    sample: &mut Sample,
-) -> Result<(), SampleFault>
+fn read_row<S: Source>(source: &mut S, place: Place, sample: &mut Sample) -> Result<(), SampleFault>
     ensures takes { TakesRow place (S.left source.old) (S.left source.new) sample.old sample.new result }
     ensures range { IsSample sample.old → IsSample sample.new }
     ensures later { S.faults source.old ≤ S.faults source.new }

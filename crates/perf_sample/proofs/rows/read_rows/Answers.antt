@@ -25,7 +25,7 @@ loop-bit-preserved g c =
             items = refl;
             took =
                 front_taken (g.S.Source.left c.args.source.now) (g.S.Source.left c.loop-bit.source) (g.S.Source.left w.read_row.new.source) c.args.layout c.loop-bit.sample
-                    w.read_row.new.sample c.loop-bit.bit-index c.loop-bit-test.true on kept done.took took;
+                w.read_row.new.sample c.loop-bit.bit-index c.loop-bit-test.true on kept done.took took;
             fits = kept.fits;
             misc = kept.misc ∙ done.misc;
             branches = kept.branches ∙ done.branches;
@@ -39,7 +39,7 @@ loop-bit-preserved g c =
             items = refl;
             took =
                 subst (Consumes (g.S.Source.left c.args.source.now) (g.S.Source.left c.loop-bit.source))
-                    (sym (front_left_out c.args.layout c.loop-bit.sample c.loop-bit.bit-index c.loop-bit-test.true off)) done.took;
+                (sym (front_left_out c.args.layout c.loop-bit.sample c.loop-bit.bit-index c.loop-bit-test.true off)) done.took;
             fits = done.fits;
             misc = done.misc;
             branches = done.branches;
