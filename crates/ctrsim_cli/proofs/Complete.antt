@@ -59,16 +59,16 @@ was_refused (Some xs) gained sink sink' b t is r form = r.no_form t (subst (λ (
 -- of two steps that each are the first that isn't built, neither comes before the other
 pub first_stop : (s : Schedule) (m n : ℕ) → StopsAtStep s m → StopsAtStep s n → m ≡ n
 first_stop s m n p q =
-    let later : n < m → ⊥ = λ h. both (built (lone s.image s.mem n).state) (p.before n h) q.stop in
-    let sooner : m < n → ⊥ = λ h. both (built (lone s.image s.mem m).state) (q.before m h) p.stop in
+    let later : n < m → ⊥ = λ h. both (built (lone s.task.image s.task.mem n).state) (p.before n h) q.stop in
+    let sooner : m < n → ⊥ = λ h. both (built (lone s.task.image s.task.mem m).state) (q.before m h) p.stop in
     grind (arith, later, sooner)
 
-pub runs_on : {P : Type 0} (s : Schedule) (n : ℕ) → AllBuilt s.image s.mem s.steps → StopsAtStep s n → P
-runs_on s n all stop = absurd (both (built (lone s.image s.mem n).state) (all n stop.within) stop.stop)
+pub runs_on : {P : Type 0} (s : Schedule) (n : ℕ) → AllBuilt s.task.image s.task.mem s.steps → StopsAtStep s n → P
+runs_on s n all stop = absurd (both (built (lone s.task.image s.task.mem n).state) (all n stop.within) stop.stop)
 
 pub ends_done : {K : Type 0} (before now : Option (List ℕ)) (gained : K → List ℕ → K → Type 0) (sink sink' : K) (reads reads' writes writes' : ℕ) (fault : Option Fault) (b : List ℕ) (s : Schedule)
     → Ran before now gained sink sink' fault → ReadCause reads reads' fault → WriteCause writes writes' fault
-    → before ≡ Some b → IsSmallForm b s → AllBuilt s.image s.mem s.steps → (Rose reads reads' → ⊥) → (Rose writes writes' → ⊥)
+    → before ≡ Some b → IsSmallForm b s → AllBuilt s.task.image s.task.mem s.steps → (Rose reads reads' → ⊥) → (Rose writes writes' → ⊥)
     → (status_of fault ≡ 0) ⊎ (status_of fault ≡ 7)
 ends_done before now gained sink sink' reads reads' writes writes' None b s ran read write is form all kept sent = inl refl
 ends_done before now gained sink sink' reads reads' writes writes' (Some Usage) b s ran read write is form all kept sent = absurd ran
@@ -85,11 +85,11 @@ pub ends_not_built : {K : Type 0} (before now : Option (List ℕ)) (gained : K �
     → before ≡ Some b → IsSmallForm b s → StopsAtStep s n → (Rose reads reads' → ⊥)
     → (fault ≡ Some (NotBuilt n)) ⊎ (fault ≡ Some Memory)
 ends_not_built before now gained sink sink' reads reads' None b s n ran read is form stop kept =
-    runs_on s n (subst (λ (t : Schedule). AllBuilt t.image t.mem t.steps) (sym (same_schedule before now ran.text b ran.schedule s is ran.heard form)) ran.steps) stop
+    runs_on s n (subst (λ (t : Schedule). AllBuilt t.task.image t.task.mem t.steps) (sym (same_schedule before now ran.text b ran.schedule s is ran.heard form)) ran.steps) stop
 ends_not_built before now gained sink sink' reads reads' (Some Usage) b s n ran read is form stop kept = absurd ran
 ends_not_built before now gained sink sink' reads reads' (Some ReadFault) b s n ran read is form stop kept = absurd (kept read)
 ends_not_built before now gained sink sink' reads reads' (Some WriteFault) b s n ran read is form stop kept =
-    runs_on s n (subst (λ (t : Schedule). AllBuilt t.image t.mem t.steps) (sym (same_schedule before now ran.text b ran.schedule s is ran.heard form)) ran.steps) stop
+    runs_on s n (subst (λ (t : Schedule). AllBuilt t.task.image t.task.mem t.steps) (sym (same_schedule before now ran.text b ran.schedule s is ran.heard form)) ran.steps) stop
 ends_not_built before now gained sink sink' reads reads' (Some Memory) b s n ran read is form stop kept = inr refl
 ends_not_built before now gained sink sink' reads reads' (Some (NotBuilt m)) b s n ran read is form stop kept =
     inl (ap (λ (k : ℕ). Some (NotBuilt k))

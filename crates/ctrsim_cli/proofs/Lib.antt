@@ -4,7 +4,10 @@ mod Cuts
 mod Decimals
 mod Digits
 mod Heard
+mod IrqLaws
+mod IrqParts
 mod Options
 mod Pushes
 mod Runs
+mod SameForms
 mod Worked

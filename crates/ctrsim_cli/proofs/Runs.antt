@@ -53,9 +53,9 @@ output_is image mem n first last e ran =
 pub steps_built : (image : List ℕ) (mem n : ℕ) (first : State) → first ≡ fresh image mem → BuiltFrom first n → AllBuilt image mem n
 steps_built image mem n first e h = all_built image mem n (subst (λ (s : State). BuiltFrom s n) e h)
 
-pub stops : (s : Schedule) (n : ℕ) (first : State) → first ≡ fresh s.image s.mem → StopsAt first s.steps n → StopsAtStep s n
+pub stops : (s : Schedule) (n : ℕ) (first : State) → first ≡ fresh s.task.image s.task.mem → StopsAt first s.steps n → StopsAtStep s n
 stops s n first e stop = record {
   within = stop.within;
-  before = steps_built s.image s.mem n first e stop.built_before;
-  stop = not_built s.image s.mem n (ap (λ (t : State). built (advanced n t)) (sym e) ∙ stop.not_built);
+  before = steps_built s.task.image s.task.mem n first e stop.built_before;
+  stop = not_built s.task.image s.task.mem n (ap (λ (t : State). built (advanced n t)) (sym e) ∙ stop.not_built);
 }

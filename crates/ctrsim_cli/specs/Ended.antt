@@ -11,7 +11,7 @@ use Rattle.ctrsim_cli.specs.Sample.{sample_of}
 
 -- the bytes of a schedule's one sample: that of the lone run of its task after all its steps
 abbrev pub output : Schedule → List ℕ
-output s = spelling 0x803 (sample_of (lone s.image s.mem s.steps))
+output s = spelling 0x803 (sample_of (lone s.task.image s.task.mem s.steps))
 
 -- the text is a schedule of the small form, and of no other
 pub record Says (text : List ℕ) (s : Schedule) : Type 0 where
@@ -29,7 +29,7 @@ pub record Done {K : Type 0} (before now : Option (List ℕ)) (gained : K → Li
   pub text : List ℕ
   pub schedule : Schedule
   pub heard : Heard before now text schedule
-  pub steps : AllBuilt schedule.image schedule.mem schedule.steps
+  pub steps : AllBuilt schedule.task.image schedule.task.mem schedule.steps
   pub written : gained old (output schedule) new
 
 -- every step was made, and a proper prefix of the sample was written
@@ -37,14 +37,14 @@ pub record CutShort {K : Type 0} (before now : Option (List ℕ)) (gained : K �
   pub text : List ℕ
   pub schedule : Schedule
   pub heard : Heard before now text schedule
-  pub steps : AllBuilt schedule.image schedule.mem schedule.steps
+  pub steps : AllBuilt schedule.task.image schedule.task.mem schedule.steps
   pub written : GainsPart gained old new (output schedule)
 
 -- the step with this number is the first that isn't built
 pub record StopsAtStep (schedule : Schedule) (n : ℕ) : Type 0 where
   pub within : n < schedule.steps
-  pub before : AllBuilt schedule.image schedule.mem n
-  pub stop : built (lone schedule.image schedule.mem n).state ≡ false
+  pub before : AllBuilt schedule.task.image schedule.task.mem n
+  pub stop : built (lone schedule.task.image schedule.task.mem n).state ≡ false
 
 -- and nothing was written
 pub record Stopped {K : Type 0} (before now : Option (List ℕ)) (gained : K → List ℕ → K → Type 0) (old new : K) (n : ℕ) : Type 0 where

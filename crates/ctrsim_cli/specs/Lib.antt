@@ -1,5 +1,7 @@
 pub mod Lines
 pub mod Numbers
+pub mod Task
+pub mod Irqs
 pub mod SmallForm
 pub mod State
 pub mod Effect

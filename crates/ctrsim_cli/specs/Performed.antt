@@ -11,8 +11,8 @@ use Rattle.ctrsim_cli.specs.Ended.{output, Says, StopsAtStep, Done, CutShort, St
 
 -- a schedule was run
 abbrev pub Performed : {K : Type 0} → (K → List ℕ → K → Type 0) → K → K → Schedule → Option Fault → Type 0
-Performed gained old new s None = AllBuilt s.image s.mem s.steps × gained old (output s) new
-Performed gained old new s (Some WriteFault) = AllBuilt s.image s.mem s.steps × GainsPart gained old new (output s)
+Performed gained old new s None = AllBuilt s.task.image s.task.mem s.steps × gained old (output s) new
+Performed gained old new s (Some WriteFault) = AllBuilt s.task.image s.task.mem s.steps × GainsPart gained old new (output s)
 Performed gained old new s (Some (NotBuilt n)) = StopsAtStep s n × gained old [] new
 Performed gained old new s (Some Memory) = gained old [] new
 Performed gained old new s (Some Usage) = ⊥

@@ -1,12 +1,12 @@
 // The top call.
-ghost use Rattle.std.specs.Prelude.{◌≤◌, length};
+ghost use Rattle.std.specs.Prelude.{◌≡◌, ◌≤◌, length};
 ghost use Rattle.ctrsim_cli.specs.Form.{schedule_of};
 ghost use Rattle.ctrsim_cli.specs.Performed.{Performed, Answered, Ran, Ends, ReadCause, WriteCause};
 ghost use Rattle.ctrsim_cli.specs.Ended.{IsRun};
 ghost use Rattle.std.specs.Bool.{OnTrue, OnFalse};
 
 use crate::fault::Fault;
-use crate::input::{ROOM, read_all};
+use crate::input::{ROOM, read_all, room};
 use crate::machine::Machine;
 use crate::sampling::write_sample;
 use crate::small_form::{Form, small_form};
@@ -42,16 +42,33 @@ fn answer<K: Sink>(alloc: Global, text: &[u8], sink: &mut K) -> Option<Fault>
     }
 }
 
-// Reads a schedule of the small form from the source, runs it, and writes its sample to the sink.
+// Reads a schedule of the small form into a buffer, runs it, and writes its sample to the sink.
+fn run_in<S: Source, K: Sink>(
+    alloc: Global,
+    buf: &mut [u8],
+    source: &mut S,
+    sink: &mut K,
+) -> Option<Fault>
+    requires { length buf.old ≡ 1200001 }
+    ensures ran { Ran (S.left source.old) (S.left source.new) K.gained sink.old sink.new result }
+    ensures read { ReadCause (S.faults source.old) (S.faults source.new) result }
+    ensures write { WriteCause (K.faults sink.old) (K.faults sink.new) result }
+{
+    match read_all(source, buf) {
+        Ok(count) => answer(alloc, &buf[..count], sink),
+        Err(fault) => Some(fault),
+    }
+}
+
+// Makes room for the input, and runs the schedule that it is.
 fn run<S: Source, K: Sink>(alloc: Global, source: &mut S, sink: &mut K) -> Option<Fault>
     ensures ran { Ran (S.left source.old) (S.left source.new) K.gained sink.old sink.new result }
     ensures read { ReadCause (S.faults source.old) (S.faults source.new) result }
     ensures write { WriteCause (K.faults sink.old) (K.faults sink.new) result }
 {
-    let mut buf = [0; ROOM];
-    match read_all(source, &mut buf) {
-        Ok(count) => answer(alloc, &buf[..count], sink),
-        Err(fault) => Some(fault),
+    match room(alloc, ROOM) {
+        Ok(mut buf) => run_in(alloc, &mut buf, source, sink),
+        Err(_) => Some(Fault::Memory),
     }
 }
 

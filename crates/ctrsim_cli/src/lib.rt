@@ -5,12 +5,14 @@ mod command;
 mod cutting;
 mod fault;
 mod input;
+mod irqs;
 mod laws;
 mod machine;
 mod notes;
 mod records;
 mod sampling;
 mod small_form;
+mod task_line;
 mod top;
 
 pub use fault::{Fault, Outcome};

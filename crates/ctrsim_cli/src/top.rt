@@ -77,7 +77,7 @@ pub fn ctrsim<S: Source, K: Sink, N: Sink>(
     ensures other_form { result.fault ≡ Some Fault.OtherForm → Refused (S.left source.old) K.gained sink.old sink.new }
 
     // Each comes wherever its cause is there, but for want of memory and for counts that rose.
-    ensures all_done { IsRun words.now → (text : List ℕ) (s : Schedule) → S.left source.old ≡ Some text → IsSmallForm text s → AllBuilt s.image s.mem s.steps
+    ensures all_done { IsRun words.now → (text : List ℕ) (s : Schedule) → S.left source.old ≡ Some text → IsSmallForm text s → AllBuilt s.task.image s.task.mem s.steps
         → (Rose (S.faults source.old) (S.faults source.new) → ⊥) → (Rose (K.faults sink.old) (K.faults sink.new) → ⊥)
         → (result.status ≡ 0) ⊎ (result.status ≡ 7) }
     ensures all_not_built { IsRun words.now → (text : List ℕ) (s : Schedule) (n : ℕ) → S.left source.old ≡ Some text → IsSmallForm text s → StopsAtStep s n

@@ -92,7 +92,7 @@ const OTHER_FORMS: [&[u8]; 14] = [
     b"ctr-schedule 1\nharts 1\nlayout 803\ntask 4  8 0 4 0 0\nimages\n\xEF\x00\x80\x00run 0 0 1\nsample 0\nend\n", // two spaces
     b"ctr-schedule 1\nharts 1\nlayout 803\ntask 12 8 0 4 0 0\nimages\n\xEF\x00\x80\x00run 0 0 1\nsample 0\nend\n", // image above memory
     b"ctr-schedule 1\nharts 1\nlayout 803\ntask 4 6 0 4 0 0\nimages\n\xEF\x00\x80\x00run 0 0 1\nsample 0\nend\n", // no multiple of 4
-    b"ctr-schedule 1\nharts 1\nlayout 803\ntask 4 4100 0 4 0 0\nimages\n\xEF\x00\x80\x00run 0 0 1\nsample 0\nend\n",
+    b"ctr-schedule 1\nharts 1\nlayout 803\ntask 4 1048580 0 4 0 0\nimages\n\xEF\x00\x80\x00run 0 0 1\nsample 0\nend\n",
     b"ctr-schedule 1\nharts 1\nlayout 803\ntask 0 0 0 4 0 0\nimages\nrun 0 0 1\nsample 0\nend\n",
     b"ctr-schedule 1\nharts 1\nlayout 803\ntask 4 +8 0 4 0 0\nimages\n\xEF\x00\x80\x00run 0 0 1\nsample 0\nend\n", // a sign
     b"ctr-schedule 1\nharts 1\nlayout 803\ntask 4 8 0 4 0 0\nimages\n\xEF\x00\x80\x00run 0 0 1000000001\nsample 0\nend\n",

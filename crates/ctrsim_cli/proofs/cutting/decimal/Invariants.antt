@@ -1,6 +1,6 @@
 use Rattle.std.proofs.Common.{◌≡◌, ◌^◌, ◌<◌, take, All}
 use Rattle.ctrsim_cli.specs.Numbers.{IsDigit, value_of}
-use Rattle.ctrsim_cli.proofs.cutting.number.Given as goal
+use Rattle.ctrsim_cli.proofs.cutting.decimal.Given as goal
 
 abbrev pub invariant-loop-digit : goal.invariant-loop-digit
 invariant-loop-digit l = record {

@@ -1,6 +1,6 @@
 use Rattle.std.proofs.Common.{arith, take, length-take-le}
 use Rattle.ctrsim_cli.proofs.Heard.{ran}
-use Rattle.ctrsim_cli.proofs.command.run.Goals as goal
+use Rattle.ctrsim_cli.proofs.command.run_in.Goals as goal
 
 pub returns-in-Ok-clause-ran : goal.returns-in-Ok-clause-ran
 returns-in-Ok-clause-ran g c =

@@ -1,0 +1,24 @@
+-- A task: what it starts with, and the interrupts that come to it.
+use Rattle.std.specs.Prelude.{ℕ, ◌^◌, List, fold, cond, nat_eq, bit_or}
+use Rattle.ctr_csrs.specs.declared.depth.Depth.{Depth}
+
+-- the interrupt of this number becomes pending before the step with this number, counted from 0 by the task's own steps
+pub record Irq : Type 0 where
+  pub step : ℕ
+  pub cause : ℕ
+
+-- an image, the bytes of memory, the depth of the records, what is written to mctrctl and vsctrctl, and the interrupts
+pub record Task : Type 0 where
+  pub image : List ℕ
+  pub mem : ℕ
+  pub depth : Depth
+  pub mctrctl : ℕ
+  pub vsctrctl : ℕ
+  pub irqs : List Irq
+
+-- the bits of the interrupts that become pending before a step
+abbrev pub with_cause : ℕ → ℕ → Irq → ℕ
+with_cause step mask irq = cond (nat_eq irq.step step) (bit_or mask (2 ^ irq.cause)) mask
+
+abbrev pub causes : List Irq → ℕ → ℕ
+causes irqs step = fold (with_cause step) 0 irqs
