@@ -1,12 +1,12 @@
 -- Interrupts in their order: one more after others, and those that come before, at and after a step.
-use Rattle.std.proofs.Common.{◌≡◌, inl, inr, ℕ, zero, suc, ◌+◌, ◌^◌, ◌<◌, ◌≤◌, List, [], ◌∷◌, ◌++◌, length, drop, get_or, fold, nat_eq, nat_lt, Bool, true, false, cond, Option, Some, None, refl, sym, ap, ◌∙◌, subst, arith, length-append}
+use Rattle.std.proofs.Common.{◌≡◌, inl, inr, ℕ, zero, suc, ◌+◌, ◌^◌, ◌<◌, ◌≤◌, List, [], ◌∷◌, ◌++◌, length, drop, get_or, nat_eq, nat_lt, Bool, true, false, cond, Option, Some, None, refl, sym, ap, ◌∙◌, subst, arith, length-append}
 use Rattle.std.specs.Prelude.{bit_or, bit_and, ⊤}
 use Rattle.std.proofs.lemmas.List.{drop_more, drop_all}
 use Rattle.std.proofs.lemmas.List.Elements.{All-push}
 use Rattle.std.proofs.lemmas.Nat.Bits.{bit_at_and, bit_at_or, same_from_bits}
 use Rattle.ctr_bits.specs.MaskBits.{bit_within}
 use Rattle.guest_modes.specs.Words.{IsWithin}
-use Rattle.ctrsim_cli.specs.Task.{Irq, with_cause}
+use Rattle.ctrsim_cli.specs.Task.{Irq, causes}
 use Rattle.ctrsim_cli.specs.Irqs.{IsIrq, IsAbove, IsNext, rise_from, Rise, last_from, CanFollow, AreIrqs, place_of, no_irq, IsDue}
 
 rise_more : (before : Option Irq) (irqs : List Irq) (irq : Irq) → rise_from before irqs → IsNext (last_from before irqs) irq → rise_from before (irqs ++ irq ∷ [])
@@ -76,11 +76,11 @@ is_lt : (n m : ℕ) → m < n → nat_lt m n ≡ true
 is_lt n m h = grind (arith, h)
 
 -- those of later steps raise nothing, and none of them comes before the next step
-pub none_raised : (step bits : ℕ) (irqs : List Irq) → not_before (step + 1) irqs → fold (with_cause step) bits irqs ≡ bits
-none_raised step bits [] h = refl
-none_raised step bits (x ∷ xs) h =
-    ap (λ (b : Bool). fold (with_cause step) (cond b (bit_or bits (2 ^ x.cause)) bits) xs) (not_eq step x.step (omega (arith, h.0)))
-    ∙ none_raised step bits xs h.1
+pub none_raised : (step : ℕ) (irqs : List Irq) → not_before (step + 1) irqs → causes irqs step ≡ 0
+none_raised step [] h = refl
+none_raised step (x ∷ xs) h =
+    ap (λ (b : Bool). cond b (bit_or (2 ^ x.cause) (causes xs step)) (causes xs step)) (not_eq step x.step (omega (arith, h.0)))
+    ∙ none_raised step xs h.1
 
 pub none_placed : (step : ℕ) (irqs : List Irq) → not_before step irqs → place_of irqs step ≡ 0
 none_placed step [] h = refl
@@ -106,17 +106,16 @@ place_within step (x ∷ xs) = elim (nat_lt x.step step) as (λ b. cond b (suc (
 ]
 
 -- those before a step raise nothing at it
-pub raised_from : (step bits : ℕ) (before : Option Irq) (irqs : List Irq) → rise_from before irqs
-    → fold (with_cause step) bits (drop (place_of irqs step) irqs) ≡ fold (with_cause step) bits irqs
-raised_from step bits before [] rise = refl
-raised_from step bits before (x ∷ xs) rise = elim (nat_lt x.step step) as (λ b. nat_lt x.step step ≡ b → fold (with_cause step) bits (drop (cond b (suc (place_of xs step)) (place_of xs step)) (x ∷ xs)) ≡ fold (with_cause step) bits (x ∷ xs)) [
+pub raised_from : (step : ℕ) (before : Option Irq) (irqs : List Irq) → rise_from before irqs → causes (drop (place_of irqs step) irqs) step ≡ causes irqs step
+raised_from step before [] rise = refl
+raised_from step before (x ∷ xs) rise = elim (nat_lt x.step step) as (λ b. nat_lt x.step step ≡ b → causes (drop (cond b (suc (place_of xs step)) (place_of xs step)) (x ∷ xs)) step ≡ causes (x ∷ xs) step) [
   | true ↦ λ e.
       let other : nat_eq x.step step ≡ false = grind (arith, e) in
-      raised_from step bits (Some x) xs rise.1
-      ∙ ap (λ (b : Bool). fold (with_cause step) (cond b (bit_or bits (2 ^ x.cause)) bits) xs) (sym other)
+      raised_from step (Some x) xs rise.1
+      ∙ ap (λ (b : Bool). cond b (bit_or (2 ^ x.cause) (causes xs step)) (causes xs step)) (sym other)
   | false ↦ λ e.
       let here : step ≤ x.step = grind (arith, e) in
-      ap (λ (n : ℕ). fold (with_cause step) bits (drop n (x ∷ xs))) (none_placed step xs (none_before step x xs here rise.1))
+      ap (λ (n : ℕ). causes (drop n (x ∷ xs)) step) (none_placed step xs (none_before step x xs here rise.1))
 ] refl
 
 -- a later place is counted from an earlier one
@@ -152,13 +151,19 @@ not_due step at irqs rise from none = elim (nat_lt at (length irqs)) as (λ b. n
       subst (not_before (step + 1)) (sym (drop_all at irqs past)) tt
 ] refl
 
+or_joined : (a b c : ℕ) → bit_or a (bit_or b c) ≡ bit_or (bit_or a b) c
+or_joined a b c = same_from_bits (bit_or a (bit_or b c)) (bit_or (bit_or a b) c) (λ i.
+    omega (arith, bit_at_or a (bit_or b c) i, bit_at_or b c i, bit_at_or (bit_or a b) c i, bit_at_or a b i))
+
 -- the one that is due at a place is raised, and is left behind
 pub due_raised : (step at bits : ℕ) (irqs : List Irq) → IsDue irqs at step
-    → fold (with_cause step) bits (drop at irqs) ≡ fold (with_cause step) (bit_or bits (2 ^ (get_or irqs at no_irq).cause)) (drop (at + 1) irqs)
+    → bit_or bits (causes (drop at irqs) step) ≡ bit_or (bit_or bits (2 ^ (get_or irqs at no_irq).cause)) (causes (drop (at + 1) irqs) step)
 due_raised step at bits irqs due =
     let x = get_or irqs at no_irq in
-    ap (fold (with_cause step) bits) (drop_more irqs at no_irq due.within)
-    ∙ ap (λ (b : Bool). fold (with_cause step) (cond b (bit_or bits (2 ^ x.cause)) bits) (drop (at + 1) irqs)) (is_eq step x.step due.at_step)
+    let rest = causes (drop (at + 1) irqs) step in
+    ap (λ (xs : List Irq). bit_or bits (causes xs step)) (drop_more irqs at no_irq due.within)
+    ∙ ap (λ (b : Bool). bit_or bits (cond b (bit_or (2 ^ x.cause) rest) rest)) (is_eq step x.step due.at_step)
+    ∙ or_joined bits (2 ^ x.cause) rest
 
 pub due_placed : (step at : ℕ) (irqs : List Irq) → IsDue irqs at step → at + place_of (drop at irqs) (step + 1) ≡ (at + 1) + place_of (drop (at + 1) irqs) (step + 1)
 due_placed step at irqs due =

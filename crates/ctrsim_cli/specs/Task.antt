@@ -1,5 +1,5 @@
 -- A task: what it starts with, and the interrupts that come to it.
-use Rattle.std.specs.Prelude.{ℕ, ◌^◌, List, fold, cond, nat_eq, bit_or}
+use Rattle.std.specs.Prelude.{ℕ, ◌^◌, List, [], ◌∷◌, cond, nat_eq, bit_or}
 use Rattle.ctr_csrs.specs.declared.depth.Depth.{Depth}
 
 -- the interrupt of this number becomes pending before the step with this number, counted from 0 by the task's own steps
@@ -16,9 +16,7 @@ pub record Task : Type 0 where
   pub vsctrctl : ℕ
   pub irqs : List Irq
 
--- the bits of the interrupts that become pending before a step
-abbrev pub with_cause : ℕ → ℕ → Irq → ℕ
-with_cause step mask irq = cond (nat_eq irq.step step) (bit_or mask (2 ^ irq.cause)) mask
-
+-- the interrupts that become pending at the step after so many steps of the task: bit i is interrupt i
 abbrev pub causes : List Irq → ℕ → ℕ
-causes irqs step = fold (with_cause step) 0 irqs
+causes [] n = 0
+causes (q ∷ qs) n = cond (nat_eq q.step n) (bit_or (2 ^ q.cause) (causes qs n)) (causes qs n)

@@ -1,7 +1,9 @@
 use Rattle.std.proofs.Common.{◌≡◌, ◌+◌, List, None, get_or, drop, sym, ap, ◌∙◌, refl, arith}
 use Rattle.std.proofs.lemmas.List.{get_or_default}
-use Rattle.ctrsim_cli.specs.Task.{Irq}
-use Rattle.ctrsim_cli.specs.Irqs.{no_irq, Rise}
+use Rattle.std.specs.Prelude.{bit_or}
+use Rattle.std.specs.Int.Bits.{or_zero_l, or_zero_r}
+use Rattle.ctrsim_cli.specs.Task.{Irq, causes}
+use Rattle.ctrsim_cli.specs.Irqs.{no_irq, place_of, Rise}
 use Rattle.ctrsim_cli.proofs.IrqLaws.{from_place, place_within, raised_from, placed_from, not_due, none_raised, none_placed, due_raised, due_placed, due_from, within_both}
 use Rattle.ctrsim_cli.proofs.irqs.Irqs.raised.Goals as goal
 
@@ -12,7 +14,7 @@ loop-self-init c =
     let rise : Rise irqs = rw (← c.self.view_is) c.self.invariant.0.rise in
     rw c.requires record {
       room = place_within step irqs;
-      bits = raised_from step 0 None irqs rise;
+      bits = or_zero_l (causes (drop (place_of irqs step) irqs) step) ∙ raised_from step None irqs rise;
       mask = refl;
       from = from_place step None irqs rise;
       counted = placed_from step None irqs rise;
@@ -43,7 +45,7 @@ returns-clause-bits c =
     let at = c.loop-self.at in
     let rise : Rise irqs = rw (← c.self.view_is) c.self.invariant.0.rise in
     let later = not_due step at irqs rise c.loop-self.invariant.from c.loop-self-test.ensures.no in
-    sym (none_raised step c.loop-self.bits (drop at irqs) later) ∙ c.loop-self.invariant.bits
+    sym (or_zero_r c.loop-self.bits) ∙ ap (bit_or c.loop-self.bits) (sym (none_raised step (drop at irqs) later)) ∙ c.loop-self.invariant.bits
 
 pub returns-clause-place : goal.returns-clause-place
 returns-clause-place c =
