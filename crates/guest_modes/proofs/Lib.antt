@@ -1,4 +1,5 @@
 mod WordLemmas
 mod NumberLemmas
 mod PickLemmas
+mod QuietLemmas
 mod ViewLemmas

@@ -1,4 +1,5 @@
-ghost use Rattle.std.specs.Prelude.{◌≡◌, ℕ, ◌<◌, ◌↔◌, ◌&&◌, IsTrue, IsNone, IfSome};
+ghost use Rattle.std.specs.Bool.{OnTrue};
+ghost use Rattle.std.specs.Prelude.{◌≡◌, ℕ, ◌<◌, ◌↔◌, ◌&&◌, IsTrue, IsNone, IfSome, bit_and};
 ghost use Rattle.guest_modes.specs.Interrupts.{allows, is_candidate, first_for, picked, IsFirst, NoCandidate};
 ghost use Rattle.guest_modes.specs.Numbers.{is_in};
 ghost use Rattle.guest_modes.specs.Traps.{interrupt_order, interrupt_taker, is_same, is_cause, is_trap_between};
@@ -23,6 +24,9 @@ pub fn pick_interrupt(p: &Priv, mode: Mode) -> Option<u8>
 fn first_of_all(p: &Priv, mode: Mode) -> Option<u8>
     ensures { result ≡ picked p.now mode }
 {
+    if is_quiet(p) {
+        return None;
+    }
     if let Some(cause) = first_taken_by(p, mode, Mode::M) {
         return Some(cause);
     }
@@ -30,6 +34,13 @@ fn first_of_all(p: &Priv, mode: Mode) -> Option<u8>
         return Some(cause);
     }
     first_taken_by(p, mode, Mode::Vs)
+}
+
+// Whether no interrupt is pending and enabled, as at nearly every step.
+fn is_quiet(p: &Priv) -> bool
+    ensures { OnTrue result (bit_and p.now.mip p.now.mie ≡ 0) }
+{
+    p.mip.get() & p.mie.get() == 0
 }
 
 macro_rules! first_candidate {

@@ -1,0 +1,3 @@
+mod AccessLemmas
+mod Lones
+mod Zeros

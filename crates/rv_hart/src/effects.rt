@@ -1,0 +1,198 @@
+// What instructions do to the registers and to memory, and how they go on.
+ghost use Rattle.std.specs.Prelude.{◌≡◌, ℕ, ◌<◌, ◌≤◌, ◌%◌, List, None, length};
+ghost use Rattle.rv_decode.specs.Rows.{NumbersFit};
+ghost use Rattle.rv_hart.specs.Core.{plus, put};
+ghost use Rattle.rv_hart.specs.Effect.{effect, jumps, branches, loads, stores, IsSound, call_cause, machine_return, supervisor_return};
+
+use crate::memory::{TaskMem, count};
+use crate::outcome::Outcome;
+use crate::processor::Core;
+use ctr_csrs::Mode;
+use guest_modes::Ret;
+use rv_alu::{apply, taken};
+use rv_decode::{Instr, Width};
+use xfer_class::{XferType, class_of};
+
+// The next instruction comes.
+fn next(core: &Core) -> Outcome
+    ensures outcome { result ≡ Outcome.Goes None (plus core.now.pc 4) }
+    ensures sound { IsSound result }
+{
+    Outcome::Goes(None, core.after())
+}
+
+// Writes a value to rd.
+fn give(core: &mut Core, rd: u8, value: u64) -> Outcome
+    requires { rd < 32 }
+    ensures core { core.new ≡ put core.old rd value }
+    ensures outcome { result ≡ Outcome.Goes None (plus core.old.pc 4) }
+    ensures sound { IsSound result }
+{
+    core.put(rd, value);
+    next(core)
+}
+
+// Jumps to a target, with the address after the jump in rd.
+fn jump(core: &mut Core, kind: Option<XferType>, rd: u8, target: u64) -> Outcome
+    requires { rd < 32 }
+    ensures effect { (bytes : List ℕ) → record { core = core.new; bytes = bytes; outcome = result } ≡ jumps kind rd target core.old bytes }
+    ensures sound { IsSound result }
+{
+    if target % 4 != 0 {
+        return Outcome::Raises(0, target);
+    }
+    let link = core.after();
+    core.put(rd, link);
+    Outcome::Goes(kind, target)
+}
+
+// Branches, or not.
+fn branch(core: &Core, taken: bool, kind: Option<XferType>, target: u64) -> Outcome
+    ensures effect { (bytes : List ℕ) → record { core = core.now; bytes = bytes; outcome = result } ≡ branches taken kind target core.now bytes }
+    ensures sound { IsSound result }
+{
+    if !taken {
+        return Outcome::Goes(kind, core.after());
+    }
+    if target % 4 != 0 {
+        return Outcome::Raises(0, target);
+    }
+    Outcome::Goes(kind, target)
+}
+
+fn load(core: &mut Core, mem: &TaskMem, width: Width, signed: bool, rd: u8, address: u64) -> Outcome
+    requires { rd < 32 }
+    ensures effect { record { core = core.new; bytes = mem.now; outcome = result } ≡ loads width signed rd address core.old mem.now }
+    ensures sound { IsSound result }
+{
+    let bytes = count(width);
+    if address % bytes != 0 {
+        return Outcome::Raises(4, address);
+    }
+    match mem.place(address, bytes) {
+        Some(at) => {
+            let value = mem.load(width, signed, at);
+            give(core, rd, value)
+        }
+        None => Outcome::Raises(5, address),
+    }
+}
+
+fn store(core: &Core, mem: &mut TaskMem, width: Width, value: u64, address: u64) -> Outcome
+    ensures effect { record { core = core.now; bytes = mem.new; outcome = result } ≡ stores width value address core.now mem.old }
+    ensures sound { IsSound result }
+{
+    let bytes = count(width);
+    if address % bytes != 0 {
+        return Outcome::Raises(6, address);
+    }
+    match mem.place(address, bytes) {
+        Some(at) => {
+            mem.store(width, value, at);
+            next(core)
+        }
+        None => Outcome::Raises(7, address),
+    }
+}
+
+// The exception of an environment call.
+fn call(mode: Mode) -> Outcome
+    ensures outcome { result ≡ Outcome.Raises (call_cause mode) 0 }
+    ensures sound { IsSound result }
+{
+    let cause = match mode {
+        Mode::M => 11,
+        Mode::S => 9,
+        Mode::Vs => 10,
+        Mode::U | Mode::Vu => 8,
+    };
+    Outcome::Raises(cause, 0)
+}
+
+fn mret(mode: Mode, word: u32) -> Outcome
+    ensures outcome { result ≡ machine_return mode word }
+    ensures sound { IsSound result }
+{
+    match mode {
+        Mode::M => Outcome::Returns(Ret::Mret),
+        Mode::S | Mode::U | Mode::Vs | Mode::Vu => Outcome::Raises(2, u64::from(word)),
+    }
+}
+
+fn sret(mode: Mode, word: u32) -> Outcome
+    ensures outcome { result ≡ supervisor_return mode word }
+    ensures sound { IsSound result }
+{
+    match mode {
+        Mode::M | Mode::S => Outcome::Returns(Ret::SretHs),
+        Mode::Vs => Outcome::Returns(Ret::SretVs),
+        Mode::U => Outcome::Raises(2, u64::from(word)),
+        Mode::Vu => Outcome::Raises(22, u64::from(word)),
+    }
+}
+
+/// Executes an instruction, whose word is given too, but for the accesses to registers and SCTRCLR, which have no effect
+/// here.
+pub(crate) fn execute(core: &mut Core, mem: &mut TaskMem, instr: Instr, word: u32) -> Outcome
+    requires { NumbersFit instr }
+    ensures effect { record { core = core.new; bytes = mem.new; outcome = result } ≡ effect instr word core.old mem.old }
+    ensures sound { IsSound result }
+{
+    match instr {
+        Instr::Lui { rd, imm } => give(core, rd, imm),
+        Instr::Auipc { rd, imm } => {
+            let sum = core.pc.wrapping_add(imm);
+            give(core, rd, sum)
+        }
+        Instr::Jal { rd, off } => {
+            let target = core.pc.wrapping_add(off);
+            jump(core, class_of(instr, false), rd, target)
+        }
+        Instr::Jalr { rd, rs1, off } => {
+            let sum = core.reg(rs1).wrapping_add(off);
+            jump(core, class_of(instr, false), rd, sum - sum % 2)
+        }
+        Instr::Branch {
+            cond,
+            rs1,
+            rs2,
+            off,
+        } => {
+            let taken = taken(cond, core.reg(rs1), core.reg(rs2));
+            let target = core.pc.wrapping_add(off);
+            branch(core, taken, class_of(instr, taken), target)
+        }
+        Instr::Load {
+            width,
+            signed,
+            rd,
+            rs1,
+            off,
+        } => {
+            let address = core.reg(rs1).wrapping_add(off);
+            load(core, mem, width, signed, rd, address)
+        }
+        Instr::Store {
+            width,
+            rs1,
+            rs2,
+            off,
+        } => {
+            let address = core.reg(rs1).wrapping_add(off);
+            store(core, mem, width, core.reg(rs2), address)
+        }
+        Instr::AluImm { op, rd, rs1, imm } => {
+            let value = apply(op, core.reg(rs1), imm);
+            give(core, rd, value)
+        }
+        Instr::Alu { op, rd, rs1, rs2 } => {
+            let value = apply(op, core.reg(rs1), core.reg(rs2));
+            give(core, rd, value)
+        }
+        Instr::Ecall => call(core.mode),
+        Instr::Ebreak => Outcome::Raises(3, 0),
+        Instr::Mret => mret(core.mode, word),
+        Instr::Sret => sret(core.mode, word),
+        Instr::Fence | Instr::FenceI | Instr::Wfi | Instr::Csr { .. } | Instr::CtrClr => next(core),
+    }
+}

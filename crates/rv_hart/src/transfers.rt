@@ -1,0 +1,35 @@
+// What a transfer does to the control transfer unit.
+ghost use Rattle.std.specs.Prelude.{◌≡◌, ◌%◌};
+ghost use Rattle.rv_hart.specs.Records.{entry_of, transferred};
+
+use ctr_buffer::{CtrStore, Event, Slot};
+use ctr_rules::{Act, Record, Transfer, act};
+use indirect_regs::CtrUnit;
+
+// A record as an entry, with the valid bit V.
+fn entry(kept: Record) -> Slot
+    requires source { kept.source % 2 ≡ 0 }
+    requires target { kept.target % 2 ≡ 0 }
+    ensures { result ≡ entry_of kept }
+{
+    Slot {
+        source: kept.source + 1,
+        target: kept.target,
+        kind: kept.kind.code(),
+    }
+}
+
+/// Records a transfer, or does to the unit what else it does.
+pub(crate) fn carry<B: CtrStore>(unit: &mut CtrUnit<B>, transfer: Transfer)
+    requires source { transfer.source % 2 ≡ 0 }
+    requires target { transfer.target % 2 ≡ 0 }
+    ensures { unit.new ≡ transferred transfer unit.old }
+{
+    match act(transfer, unit.m, unit.vs, unit.frozen) {
+        Act::Nothing => {}
+        Act::Push(kept) => unit.perform(Event::Push(entry(kept))),
+        Act::Pop => unit.perform(Event::Pop),
+        Act::Swap(kept) => unit.perform(Event::Swap(entry(kept))),
+        Act::Freeze => unit.frozen = true,
+    }
+}
