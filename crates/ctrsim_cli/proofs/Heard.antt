@@ -2,8 +2,9 @@
 use Rattle.std.proofs.Common.{◌≡◌, ℕ, ◌<◌, ◌≤◌, List, [], ◌++◌, length, None, Some, IfSome, sym, ap, ◌∙◌, subst, arith, append-nil, length-append}
 use Rattle.std.specs.declared.option.Option.{Option}
 use Rattle.std.specs.Io.KnownBytes.{Consumes, IsAtEnd}
+use Rattle.rv_hart.specs.State.{HartState}
 use Rattle.ctrsim_cli.specs.declared.fault.Fault.{Fault}
-use Rattle.ctrsim_cli.specs.declared.fault.Fault.TheVariants.{Usage, ReadFault, WriteFault, Memory, NotBuilt, OtherForm}
+use Rattle.ctrsim_cli.specs.declared.fault.Fault.TheVariants.{Usage, ReadFault, WriteFault, Memory, OtherForm}
 use Rattle.ctrsim_cli.specs.SmallForm.{Schedule, IsSmallForm}
 use Rattle.ctrsim_cli.specs.Ended.{Says, Heard}
 use Rattle.ctrsim_cli.proofs.Options.{some_is_none, held_is}
@@ -36,27 +37,24 @@ heard before now text s given ended says =
     record { given = given; ended = ended (omega (arith, few)); says = says }
 
 -- the answer to a text is the answer to the source that gave it
-pub ran : {K : Type 0} (gained : K → List ℕ → K → Type 0) (old new : K) (before now : Option (List ℕ)) (text : List ℕ) (fault : Option Fault)
-    → Consumes before now text → (length text < 1200001 → IsAtEnd now) → Answered gained old new text fault → Ran before now gained old new fault
-ran gained old new before now text None given ended a =
-    record { text = text; schedule = a.schedule; heard = heard before now text a.schedule given ended a.says; steps = a.performed.0; written = a.performed.1 }
-ran gained old new before now text (Some Usage) given ended a = absurd a
-ran gained old new before now text (Some ReadFault) given ended a = absurd a
-ran gained old new before now text (Some WriteFault) given ended a =
-    record { text = text; schedule = a.schedule; heard = heard before now text a.schedule given ended a.says; steps = a.performed.0; written = a.performed.1 }
-ran gained old new before now text (Some Memory) given ended a = a
-ran gained old new before now text (Some (NotBuilt n)) given ended a =
-    record { text = text; schedule = a.schedule; heard = heard before now text a.schedule given ended a.says; stop = a.performed.0; written = a.performed.1 }
-ran gained old new before now text (Some OtherForm) given ended a =
-    record { no_form = refused before now text given ended a.0; written = a.1 }
+pub ran : {K : Type 0} (gained : K → List ℕ → K → Type 0) (old new : K) (harts : List HartState) (before now : Option (List ℕ)) (text : List ℕ) (fault : Option Fault)
+    → Consumes before now text → (length text < 1200001 → IsAtEnd now) → Answered gained old new harts text fault → Ran before now gained old new harts fault
+ran gained old new harts before now text None given ended a =
+    record { text = text; schedule = a.schedule; heard = heard before now text a.schedule given ended a.says; written = a.performed.0; harts_are = a.performed.1 }
+ran gained old new harts before now text (Some Usage) given ended a = absurd a
+ran gained old new harts before now text (Some ReadFault) given ended a = absurd a
+ran gained old new harts before now text (Some WriteFault) given ended a =
+    record { text = text; schedule = a.schedule; heard = heard before now text a.schedule given ended a.says; written = a.performed.0; harts_are = a.performed.1 }
+ran gained old new harts before now text (Some Memory) given ended a = a
+ran gained old new harts before now text (Some OtherForm) given ended a =
+    record { no_form = refused before now text given ended a.0; nothing = a.1 }
 
 -- what was done with the schedule that a text says is the answer to the text
-pub answered : {K : Type 0} (gained : K → List ℕ → K → Type 0) (old new : K) (text : List ℕ) (s : Schedule) (fault : Option Fault)
-    → Says text s → Performed gained old new s fault → Answered gained old new text fault
-answered gained old new text s None says done = record { schedule = s; says = says; performed = done }
-answered gained old new text s (Some WriteFault) says done = record { schedule = s; says = says; performed = done }
-answered gained old new text s (Some (NotBuilt n)) says done = record { schedule = s; says = says; performed = done }
-answered gained old new text s (Some Memory) says done = done
-answered gained old new text s (Some Usage) says done = absurd done
-answered gained old new text s (Some ReadFault) says done = absurd done
-answered gained old new text s (Some OtherForm) says done = absurd done
+pub answered : {K : Type 0} (gained : K → List ℕ → K → Type 0) (old new : K) (harts : List HartState) (text : List ℕ) (s : Schedule) (fault : Option Fault)
+    → Says text s → Performed gained old new harts s fault → Answered gained old new harts text fault
+answered gained old new harts text s None says done = record { schedule = s; says = says; performed = done }
+answered gained old new harts text s (Some WriteFault) says done = record { schedule = s; says = says; performed = done }
+answered gained old new harts text s (Some Memory) says done = done
+answered gained old new harts text s (Some Usage) says done = absurd done
+answered gained old new harts text s (Some ReadFault) says done = absurd done
+answered gained old new harts text s (Some OtherForm) says done = absurd done

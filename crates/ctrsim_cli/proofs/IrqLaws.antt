@@ -6,7 +6,7 @@ use Rattle.std.proofs.lemmas.List.Elements.{All-push}
 use Rattle.std.proofs.lemmas.Nat.Bits.{bit_at_and, bit_at_or, same_from_bits}
 use Rattle.ctr_bits.specs.MaskBits.{bit_within}
 use Rattle.guest_modes.specs.Words.{IsWithin}
-use Rattle.ctrsim_cli.specs.Task.{Irq, causes}
+use Rattle.rv_hart.specs.Task.{Irq, causes}
 use Rattle.ctrsim_cli.specs.Irqs.{IsIrq, IsAbove, IsNext, rise_from, Rise, last_from, CanFollow, AreIrqs, place_of, no_irq, IsDue}
 
 rise_more : (before : Option Irq) (irqs : List Irq) (irq : Irq) → rise_from before irqs → IsNext (last_from before irqs) irq → rise_from before (irqs ++ irq ∷ [])

@@ -3,7 +3,7 @@ use Rattle.std.proofs.Common.{◌≡◌, ℕ, ◌≤◌, List, [], ◌∷◌, �
 use Rattle.std.specs.Prelude.{codes}
 use Rattle.ctrsim_cli.specs.Lines.{cut}
 use Rattle.ctrsim_cli.specs.Numbers.{IsDecimal, value_of}
-use Rattle.ctrsim_cli.specs.Task.{Irq}
+use Rattle.rv_hart.specs.Task.{Irq}
 use Rattle.ctrsim_cli.specs.Irqs.{CanFollow, Rise}
 use Rattle.ctrsim_cli.specs.SmallForm.{IsIrqLine, IsIrqLines, IsIrqPart}
 use Rattle.ctrsim_cli.proofs.Cuts.{pair, same_front, same_rest}

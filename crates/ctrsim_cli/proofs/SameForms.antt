@@ -1,7 +1,7 @@
 -- A schedule and the parts that it was read from.
 use Rattle.std.proofs.Common.{◌≡◌, ℕ, ◌<◌, List, length, take, drop, ap, ◌∙◌, arith, length-take}
 use Rattle.ctrsim_cli.specs.declared.task_line.TaskLine.{TaskLine}
-use Rattle.ctrsim_cli.specs.Task.{Irq}
+use Rattle.rv_hart.specs.Task.{Irq}
 use Rattle.ctrsim_cli.specs.SmallForm.{Schedule, line_of}
 
 -- an image lies within the bytes after the lines

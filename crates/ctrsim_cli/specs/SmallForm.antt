@@ -4,7 +4,7 @@ use Rattle.ctr_csrs.specs.declared.depth.Depth.{Depth}
 use Rattle.ctr_csrs.specs.Depths.{code_of}
 use Rattle.ctrsim_cli.specs.Lines.{line, word}
 use Rattle.ctrsim_cli.specs.Numbers.{IsDecimal, IsHexadecimal}
-use Rattle.ctrsim_cli.specs.Task.{Irq, Task}
+use Rattle.rv_hart.specs.Task.{Irq, Task}
 use Rattle.ctrsim_cli.specs.Irqs.{IsIrq, Rise}
 use Rattle.ctrsim_cli.specs.declared.task_line.TaskLine.{TaskLine}
 

@@ -2,7 +2,7 @@
 ghost use Rattle.std.specs.Prelude.{◌≡◌, ◌+◌, ◌≤◌, ◌<◌, ◌^◌, [], ◌∷◌, ◌++◌, length, true, get_or, IfSome, IsNone};
 ghost use Rattle.std.specs.Bool.{OnTrue, OnFalse};
 ghost use Rattle.guest_modes.specs.Words.{IsWithin};
-ghost use Rattle.ctrsim_cli.specs.Task.{causes};
+ghost use Rattle.rv_hart.specs.Task.{causes};
 ghost use Rattle.ctrsim_cli.specs.Irqs.{is_cause, IsIrq, IsAbove, CanFollow, IsDue, place_of, no_irq};
 
 use arrayvec::ArrayVec;
@@ -20,7 +20,7 @@ pub struct IrqLine {
 }
 
 impl Model for IrqLine {
-    ghost use Rattle.ctrsim_cli.specs.Task.{Irq};
+    ghost use Rattle.rv_hart.specs.Task.{Irq};
 
     ghost Value = { Irq };
 
@@ -79,7 +79,7 @@ pub struct Irqs {
 
 impl Model for Irqs {
     ghost use Rattle.std.specs.Prelude.{◌≡◌, List};
-    ghost use Rattle.ctrsim_cli.specs.Task.{Irq};
+    ghost use Rattle.rv_hart.specs.Task.{Irq};
     ghost use Rattle.ctrsim_cli.specs.Irqs.{AreIrqs, last_of};
 
     ghost Value = { List Irq };

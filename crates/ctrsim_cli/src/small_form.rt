@@ -1,6 +1,6 @@
 // The small form of a schedule: one task on one hart, its interrupts, some steps, one sample.
 ghost use Rattle.std.specs.Prelude.{◌≡◌, ℕ, ◌≤◌, List, [], Some, length, IfSome, IsSomeAnd};
-ghost use Rattle.ctrsim_cli.specs.Task.{Irq};
+ghost use Rattle.rv_hart.specs.Task.{Irq};
 ghost use Rattle.ctrsim_cli.specs.SmallForm.{HasIrqWords, IsIrqLine, IsIrqPart, IsRunLine, IsHead, IsTail, IsSmallForm, Schedule};
 ghost use Rattle.ctrsim_cli.specs.Form.{schedule_of};
 ghost use Rattle.ctrsim_cli.specs.declared.task_line.TaskLine as lines;
@@ -96,7 +96,7 @@ fn tail(text: &[u8]) -> Option<u64>
 #[derive(Drop)]
 pub struct Form<'a> {
     pub image: &'a [u8],
-    pub mem: usize,
+    pub mem: u32,
     pub depth: Depth,
     pub mctrctl: u64,
     pub vsctrctl: u64,
@@ -122,7 +122,7 @@ pub fn small_form(text: &[u8]) -> Option<Form<'_>>
     let steps = tail(rest)?;
     Some(Form {
         image,
-        mem: task.mem as usize,
+        mem: task.mem as u32,
         depth: task.depth,
         mctrctl: task.mctrctl,
         vsctrctl: task.vsctrctl,

@@ -2,7 +2,7 @@ use Rattle.std.proofs.Common.{◌≡◌, ◌+◌, List, None, get_or, drop, sym,
 use Rattle.std.proofs.lemmas.List.{get_or_default}
 use Rattle.std.specs.Prelude.{bit_or}
 use Rattle.std.specs.Int.Bits.{or_zero_l, or_zero_r}
-use Rattle.ctrsim_cli.specs.Task.{Irq, causes}
+use Rattle.rv_hart.specs.Task.{Irq, causes}
 use Rattle.ctrsim_cli.specs.Irqs.{no_irq, place_of, Rise}
 use Rattle.ctrsim_cli.proofs.IrqLaws.{from_place, place_within, raised_from, placed_from, not_due, none_raised, none_placed, due_raised, due_placed, due_from, within_both}
 use Rattle.ctrsim_cli.proofs.irqs.Irqs.raised.Goals as goal

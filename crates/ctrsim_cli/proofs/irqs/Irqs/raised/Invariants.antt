@@ -1,7 +1,7 @@
 use Rattle.std.proofs.Common.{◌≡◌, ◌+◌, ◌-◌, ◌≤◌, drop, length}
 use Rattle.std.specs.Prelude.{bit_or}
 use Rattle.guest_modes.specs.Words.{IsWithin}
-use Rattle.ctrsim_cli.specs.Task.{causes}
+use Rattle.rv_hart.specs.Task.{causes}
 use Rattle.ctrsim_cli.specs.Irqs.{place_of}
 use Rattle.ctrsim_cli.proofs.IrqLaws.{not_before}
 use Rattle.ctrsim_cli.proofs.irqs.Irqs.raised.Given as goal
