@@ -1,5 +1,5 @@
 -- A task on a hart and its lone run.
-use Rattle.std.proofs.Common.{◌≡◌, ℕ, suc, ◌+◌, List, [], ◌∷◌, refl, sym, ap, ◌∙◌, subst, arith, Bool, false, cond, nat_lt}
+use Rattle.std.proofs.Common.{◌≡◌, ℕ, suc, ◌+◌, List, [], ◌∷◌, refl, ap, ◌∙◌, subst, arith, Bool, false, cond, nat_lt}
 use Rattle.std.proofs.Math.Numerals.{suc-eq-add-one}
 use Rattle.rv_hart.specs.Task.{Irq, Task, causes}
 use Rattle.rv_hart.specs.Step.{Live, next}

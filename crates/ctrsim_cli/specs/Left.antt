@@ -3,8 +3,7 @@ use Rattle.std.specs.Prelude.{ℕ, ◌+◌, ◌*◌, List, ◌∷◌, replicate,
 use Rattle.ctr_csrs.specs.Depths.{entries_of}
 use Rattle.perf_sample.specs.Spelling.{spelling}
 use Rattle.rv_hart.specs.Step.{Live}
-use Rattle.rv_hart.specs.Task.{Task}
-use Rattle.rv_hart.specs.Lone.{Told, first_state, lone}
+use Rattle.rv_hart.specs.Lone.{Told, lone}
 use Rattle.rv_hart.specs.State.{HartState, fresh_hart}
 use Rattle.ctrsim_cli.specs.SmallForm.{Schedule}
 use Rattle.ctrsim_cli.specs.Sample.{sample_of}
@@ -16,10 +15,6 @@ told_of s = lone s.task s.steps
 -- the one sample
 abbrev pub output : Schedule → List ℕ
 output s = spelling 0x803 (sample_of (told_of s))
-
--- a hart before the first step of a task: its depth and its two controls were written
-abbrev pub prepared : Task → HartState
-prepared t = record { core = (first_state t).core; unit = (first_state t).unit; steps = 0; accesses = 3; resident = Some 0 }
 
 -- how often a monitor reaches for a register: it writes the depth and the two controls, and at the end it reads the depth and
 -- the select, selects each entry and reads its three parts, and writes the select back

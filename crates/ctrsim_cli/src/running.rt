@@ -6,7 +6,7 @@ ghost use Rattle.rv_hart.specs.Lone.{first_state, advanced};
 ghost use Rattle.rv_hart.specs.State.{fresh_hart, live_of};
 ghost use Rattle.ctrsim_cli.specs.Form.{schedule_of};
 ghost use Rattle.ctrsim_cli.specs.Sample.{sample_of};
-ghost use Rattle.ctrsim_cli.specs.Left.{prepared, told_of, ran_hart};
+ghost use Rattle.ctrsim_cli.specs.Left.{told_of, ran_hart};
 
 use crate::sampling::sample;
 use crate::small_form::Form;
@@ -18,7 +18,7 @@ use rv_hart::{Hart, Store, TaskMem, lone_run_laws};
 // Writes the depth and the controls of a task, and says that it is task 0 that runs on the hart.
 fn prepare(hart: &mut Hart<Store>, form: &Form<'_>)
     requires { hart.old ≡ fresh_hart }
-    ensures { hart.new ≡ prepared (schedule_of form.now).task }
+    ensures { hart.new ≡ record hart.old { unit = (first_state (schedule_of form.now).task).unit; accesses = 3; resident = Some 0 } }
 {
     hart.set(PortReg::Depth, depth_code(form.depth));
     hart.set(PortReg::Mctrctl, form.mctrctl);
