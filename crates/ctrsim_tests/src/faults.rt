@@ -18,73 +18,6 @@ const OTHER_WORDS: [&[&str]; 6] = [
     &["--help"],
 ];
 
-// A schedule with a step that isn't built.
-#[derive(Clone, Copy)]
-struct Stop {
-    name: &'static str,
-    // the words IMAGE and MEM
-    sizes: &'static [u8],
-    image: &'static [u8],
-    steps: &'static [u8],
-    number: u64,
-    said: &'static [u8],
-}
-
-const STOPS: [Stop; 6] = [
-    Stop {
-        name: "ECALL",
-        sizes: b"4 4",
-        image: b"\x73\x00\x00\x00",
-        steps: b"1",
-        number: 0,
-        said: b"ctrsim: step 0 isn't built\n",
-    },
-    Stop {
-        name: "no instruction",
-        sizes: b"4 4",
-        image: b"\xFF\xFF\xFF\xFF",
-        steps: b"1",
-        number: 0,
-        said: b"ctrsim: step 0 isn't built\n",
-    },
-    // addi x5, x5, 1, and then the end of memory
-    Stop {
-        name: "past memory",
-        sizes: b"4 4",
-        image: b"\x93\x82\x12\x00",
-        steps: b"11",
-        number: 1,
-        said: b"ctrsim: step 1 isn't built\n",
-    },
-    // jal x0, 2
-    Stop {
-        name: "a target between words",
-        sizes: b"4 4",
-        image: b"\x6F\x00\x20\x00",
-        steps: b"1",
-        number: 0,
-        said: b"ctrsim: step 0 isn't built\n",
-    },
-    // jalr x0, 0(x0), which is built, and then address 0
-    Stop {
-        name: "below memory",
-        sizes: b"4 4",
-        image: b"\x67\x00\x00\x00",
-        steps: b"2",
-        number: 1,
-        said: b"ctrsim: step 1 isn't built\n",
-    },
-    // eleven ADDI, and then slli x0, x0, 1
-    Stop {
-        name: "a number of two digits",
-        sizes: b"48 48",
-        image: b"\x13\0\0\0\x13\0\0\0\x13\0\0\0\x13\0\0\0\x13\0\0\0\x13\0\0\0\x13\0\0\0\x13\0\0\0\x13\0\0\0\x13\0\0\0\x13\0\0\0\x13\x10\x10\0",
-        steps: b"100",
-        number: 11,
-        said: b"ctrsim: step 11 isn't built\n",
-    },
-];
-
 const OTHER_FORMS: [&[u8]; 14] = [
     b"",
     b"ctr-schedule 1\nharts 2\nlayout 803\ntask 4 8 0 4 0 0\nimages\n\xEF\x00\x80\x00run 0 0 1\nsample 0\nend\n",
@@ -92,7 +25,7 @@ const OTHER_FORMS: [&[u8]; 14] = [
     b"ctr-schedule 1\nharts 1\nlayout 803\ntask 4  8 0 4 0 0\nimages\n\xEF\x00\x80\x00run 0 0 1\nsample 0\nend\n", // two spaces
     b"ctr-schedule 1\nharts 1\nlayout 803\ntask 12 8 0 4 0 0\nimages\n\xEF\x00\x80\x00run 0 0 1\nsample 0\nend\n", // image above memory
     b"ctr-schedule 1\nharts 1\nlayout 803\ntask 4 6 0 4 0 0\nimages\n\xEF\x00\x80\x00run 0 0 1\nsample 0\nend\n", // no multiple of 4
-    b"ctr-schedule 1\nharts 1\nlayout 803\ntask 4 4100 0 4 0 0\nimages\n\xEF\x00\x80\x00run 0 0 1\nsample 0\nend\n",
+    b"ctr-schedule 1\nharts 1\nlayout 803\ntask 4 1048580 0 4 0 0\nimages\n\xEF\x00\x80\x00run 0 0 1\nsample 0\nend\n",
     b"ctr-schedule 1\nharts 1\nlayout 803\ntask 0 0 0 4 0 0\nimages\nrun 0 0 1\nsample 0\nend\n",
     b"ctr-schedule 1\nharts 1\nlayout 803\ntask 4 +8 0 4 0 0\nimages\n\xEF\x00\x80\x00run 0 0 1\nsample 0\nend\n", // a sign
     b"ctr-schedule 1\nharts 1\nlayout 803\ntask 4 8 0 4 0 0\nimages\n\xEF\x00\x80\x00run 0 0 1000000001\nsample 0\nend\n",
@@ -125,20 +58,6 @@ fn other_words_are_usage_and_touch_nothing(rt: HostRuntime) -> Result<(), NoMemo
             b"ctrsim: usage: ctrsim run | show HEX | demo N\n",
             0,
         );
-    }
-    Ok(())
-}
-
-#[test]
-fn a_step_that_is_not_built_is_named(rt: HostRuntime) -> Result<(), NoMemory> {
-    for case in STOPS {
-        let text = schedule(rt.alloc(), case.sizes, case.image, case.steps)?;
-        let ended = run(rt.alloc(), &["run"], text.as_slice(), &[])?;
-        let want = Outcome {
-            status: 8,
-            fault: Some(Fault::NotBuilt(case.number)),
-        };
-        stops(&rt, case.name, &ended, want, case.said, 0);
     }
     Ok(())
 }

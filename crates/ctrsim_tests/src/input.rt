@@ -3,6 +3,7 @@ ghost use Rattle.std.specs.Prelude.{◌<◌, All};
 
 use ctr_port::{MemSink, MemSource, NoMemory};
 use ctrsim_cli::{Outcome, ctrsim};
+use rv_hart::Harts;
 use std::alloc::{AllocError, Global};
 
 /// A call with all that it left.
@@ -49,7 +50,8 @@ pub fn call(
     }
     let mut sink = sink;
     let mut notes = notes;
-    let outcome = ctrsim(alloc, &list, source, &mut sink, &mut notes);
+    let mut harts = Harts::new(alloc)?;
+    let outcome = ctrsim(alloc, &list, source, &mut sink, &mut notes, &mut harts);
     Ok(Ended {
         outcome,
         sink,
