@@ -128,9 +128,9 @@ fn lines(alloc: Global, count: u16) -> Result<Vec<u8>, AllocError> {
             b'0' + (i / 10 % 10) as u8,
             b'0' + (i % 10) as u8,
         ];
-        for part in [b"irq 0 ".as_slice(), digits.as_slice(), b" 13\n"] {
-            text.extend_from_slice(part)?;
-        }
+        text.extend_from_slice(b"irq 0 ")?;
+        text.extend_from_slice(&digits)?;
+        text.extend_from_slice(b" 13\n")?;
     }
     Ok(text)
 }

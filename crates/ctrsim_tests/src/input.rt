@@ -34,10 +34,10 @@ pub fn schedule(
     steps: &[u8],
 ) -> Result<Vec<u8>, AllocError> {
     let mut text = Vec::new(alloc);
+    text.extend_from_slice(b"ctr-schedule 1\nharts 1\nlayout 803\ntask ")?;
+    text.extend_from_slice(&digits(image.len()))?;
     for part in [
-        b"ctr-schedule 1\nharts 1\nlayout 803\ntask ".as_slice(),
-        digits(image.len()).as_slice(),
-        b" ",
+        b" ".as_slice(),
         task,
         b"\n",
         irqs,

@@ -46,7 +46,7 @@ const SAMPLED: [Case; 28] = [
     // jal x1, 8
     Case {
         name: "no step",
-        task: b"4 8 0 4 0 0",
+        task: b"8 0 4 0 0",
         irqs: b"",
         image: b"\xEF\x00\x80\x00",
         steps: b"0",
@@ -59,7 +59,7 @@ const SAMPLED: [Case; 28] = [
     // jal x1, 8
     Case {
         name: "leading zeros in hexadecimal digits of either case",
-        task: b"4 8 0 0000004 0aF 0",
+        task: b"8 0 0000004 0aF 0",
         irqs: b"",
         image: b"\xEF\x00\x80\x00",
         steps: b"1",
@@ -72,7 +72,7 @@ const SAMPLED: [Case; 28] = [
     // beq x0, x0, 8
     Case {
         name: "a branch that is taken",
-        task: b"4 12 0 4 0 0",
+        task: b"12 0 4 0 0",
         irqs: b"",
         image: b"\x63\x04\x00\x00",
         steps: b"1",
@@ -85,7 +85,7 @@ const SAMPLED: [Case; 28] = [
     // bne x0, x0, 8
     Case {
         name: "a branch that isn't taken",
-        task: b"4 4 0 4 0 0",
+        task: b"4 0 4 0 0",
         irqs: b"",
         image: b"\x63\x14\x00\x00",
         steps: b"1",
@@ -98,7 +98,7 @@ const SAMPLED: [Case; 28] = [
     // addi x5, x0, 2; addi x5, x5, -1; bne x5, x0, -4; jal x6, 4; jalr x1, 0(x6)
     Case {
         name: "a loop",
-        task: b"20 20 0 4 0 0",
+        task: b"20 0 4 0 0",
         irqs: b"",
         image: b"\x93\x02\x20\x00\x93\x82\xF2\xFF\xE3\x9E\x02\xFE\x6F\x03\x40\x00\xE7\x00\x03\x00",
         steps: b"7",
@@ -115,7 +115,7 @@ const SAMPLED: [Case; 28] = [
     // auipc x5, 0; lw x6, 0(x5); bne x5, x6, 8
     Case {
         name: "a branch on a load",
-        task: b"12 16 0 4 0 0",
+        task: b"16 0 4 0 0",
         irqs: b"",
         image: b"\x97\x02\x00\x00\x03\xA3\x02\x00\x63\x94\x62\x00",
         steps: b"3",
@@ -128,7 +128,7 @@ const SAMPLED: [Case; 28] = [
     // seventeen calls, seventeen returns, one call
     Case {
         name: "calls and returns under return-stack emulation leave one call",
-        task: b"140 140 0 84 0 0",
+        task: b"140 0 84 0 0",
         irqs: b"",
         image: b"\xEF\x00\x40\x00\xEF\x00\x40\x00\xEF\x00\x40\x00\xEF\x00\x40\x00\xEF\x00\x40\x00\xEF\x00\x40\x00\xEF\x00\x40\x00\xEF\x00\x40\x00\xEF\x00\x40\x00\xEF\x00\x40\x00\xEF\x00\x40\x00\xEF\x00\x40\x00\xEF\x00\x40\x00\xEF\x00\x40\x00\xEF\x00\x40\x00\xEF\x00\x40\x00\xEF\x00\x40\x00\x67\x80\x40\x00\x67\x80\x80\x00\x67\x80\xC0\x00\x67\x80\x00\x01\x67\x80\x40\x01\x67\x80\x80\x01\x67\x80\xC0\x01\x67\x80\x00\x02\x67\x80\x40\x02\x67\x80\x80\x02\x67\x80\xC0\x02\x67\x80\x00\x03\x67\x80\x40\x03\x67\x80\x80\x03\x67\x80\xC0\x03\x67\x80\x00\x04\x67\x80\x40\x04\xEF\x00\x40\x00",
         steps: b"35",
@@ -141,7 +141,7 @@ const SAMPLED: [Case; 28] = [
     // jalr x1, 0(x5)
     Case {
         name: "a co-routine swap under return-stack emulation replaces the youngest entry",
-        task: b"4 4 0 84 0 0",
+        task: b"4 0 84 0 0",
         irqs: b"",
         image: b"\xE7\x80\x02\x00",
         steps: b"1",
@@ -154,7 +154,7 @@ const SAMPLED: [Case; 28] = [
     // bne x0, x0, 8
     Case {
         name: "a branch that isn't taken is recorded with NTBREN, and then a fault",
-        task: b"4 4 0 1000000004 0 0",
+        task: b"4 0 1000000004 0 0",
         irqs: b"",
         image: b"\x63\x14\x00\x00",
         steps: b"2",
@@ -170,7 +170,7 @@ const SAMPLED: [Case; 28] = [
     // to U at 80000010, where ECALL is taken in M
     Case {
         name: "a trap from U to M with mctrctl 201",
-        task: b"20 20 0 201 0 0",
+        task: b"20 0 201 0 0",
         irqs: b"",
         image: b"\x97\x02\x00\x00\x93\x82\x02\x01\x73\x90\x12\x34\x73\x00\x20\x30\x73\x00\x00\x00",
         steps: b"5",
@@ -183,7 +183,7 @@ const SAMPLED: [Case; 28] = [
     // to U at 80000010, where ECALL is taken in M
     Case {
         name: "a trap from U to M with mctrctl 101",
-        task: b"20 20 0 101 0 0",
+        task: b"20 0 101 0 0",
         irqs: b"",
         image: b"\x97\x02\x00\x00\x93\x82\x02\x01\x73\x90\x12\x34\x73\x00\x20\x30\x73\x00\x00\x00",
         steps: b"5",
@@ -196,7 +196,7 @@ const SAMPLED: [Case; 28] = [
     // to U at 80000010, where ECALL is taken in M
     Case {
         name: "a trap from U to M with mctrctl 301",
-        task: b"20 20 0 301 0 0",
+        task: b"20 0 301 0 0",
         irqs: b"",
         image: b"\x97\x02\x00\x00\x93\x82\x02\x01\x73\x90\x12\x34\x73\x00\x20\x30\x73\x00\x00\x00",
         steps: b"5",
@@ -209,7 +209,7 @@ const SAMPLED: [Case; 28] = [
     // to U at 80000010, where ECALL is taken in M
     Case {
         name: "a trap from U to M with mctrctl 200000301",
-        task: b"20 20 0 200000301 0 0",
+        task: b"20 0 200000301 0 0",
         irqs: b"",
         image: b"\x97\x02\x00\x00\x93\x82\x02\x01\x73\x90\x12\x34\x73\x00\x20\x30\x73\x00\x00\x00",
         steps: b"5",
@@ -222,7 +222,7 @@ const SAMPLED: [Case; 28] = [
     // mtvec is 80000014; jal x0, 4; EBREAK; the handler loops
     Case {
         name: "a freeze at a breakpoint",
-        task: b"24 24 0 804 0 0",
+        task: b"24 0 804 0 0",
         irqs: b"",
         image: b"\x97\x02\x00\x00\x93\x82\x42\x01\x73\x90\x52\x30\x6F\x00\x40\x00\x73\x00\x10\x00\x6F\x00\x00\x00",
         steps: b"6",
@@ -235,7 +235,7 @@ const SAMPLED: [Case; 28] = [
     // interrupt 13 goes to VS; VU loops at 8000002C
     Case {
         name: "a freeze at a counter overflow in a guest",
-        task: b"48 48 0 0 1001 0",
+        task: b"48 0 0 1001 0",
         irqs: b"irq 0 12 13\n",
         image: b"\xB7\x22\x00\x00\x73\x90\x32\x30\x73\x90\x32\x60\x73\x90\x42\x30\x13\x03\x10\x00\x13\x13\x73\x02\x73\x10\x03\x30\x97\x03\x00\x00\x93\x83\x03\x01\x73\x90\x13\x34\x73\x00\x20\x30\x6F\x00\x00\x00",
         steps: b"13",
@@ -248,7 +248,7 @@ const SAMPLED: [Case; 28] = [
     // ECALL in VU is taken in S
     Case {
         name: "a trap out of a guest is filtered by vsctrctl",
-        task: b"40 40 0 2 200000001 0",
+        task: b"40 0 2 200000001 0",
         irqs: b"",
         image: b"\x93\x02\x00\x10\x73\x90\x22\x30\x13\x03\x10\x00\x13\x13\x73\x02\x73\x10\x03\x30\x97\x03\x00\x00\x93\x83\x03\x01\x73\x90\x13\x34\x73\x00\x20\x30\x73\x00\x00\x00",
         steps: b"10",
@@ -261,7 +261,7 @@ const SAMPLED: [Case; 28] = [
     // ECALL in VU is taken in S
     Case {
         name: "a trap out of a guest isn't filtered by mctrctl",
-        task: b"40 40 0 200000002 1 0",
+        task: b"40 0 200000002 1 0",
         irqs: b"",
         image: b"\x93\x02\x00\x10\x73\x90\x22\x30\x13\x03\x10\x00\x13\x13\x73\x02\x73\x10\x03\x30\x97\x03\x00\x00\x93\x83\x03\x01\x73\x90\x13\x34\x73\x00\x20\x30\x73\x00\x00\x00",
         steps: b"10",
@@ -274,7 +274,7 @@ const SAMPLED: [Case; 28] = [
     // SRET at 80000020
     Case {
         name: "a return from S to U where U doesn't record",
-        task: b"36 36 0 2 0 0",
+        task: b"36 0 2 0 0",
         irqs: b"",
         image: b"\x93\x02\x10\x00\x93\x92\xB2\x00\x73\x90\x02\x30\x97\x03\x00\x00\x93\x83\x43\x01\x73\x90\x13\x34\x73\x90\x13\x14\x73\x00\x20\x30\x73\x00\x20\x10",
         steps: b"9",
@@ -287,7 +287,7 @@ const SAMPLED: [Case; 28] = [
     // ECALL
     Case {
         name: "a call of the environment from M",
-        task: b"4 4 0 4 0 0",
+        task: b"4 0 4 0 0",
         irqs: b"",
         image: b"\x73\x00\x00\x00",
         steps: b"1",
@@ -300,7 +300,7 @@ const SAMPLED: [Case; 28] = [
     // seventeen times jal x0, 4
     Case {
         name: "a filter of jumps",
-        task: b"68 68 0 80000000004 0 0",
+        task: b"68 0 80000000004 0 0",
         irqs: b"",
         image: b"\x6F\x00\x40\x00\x6F\x00\x40\x00\x6F\x00\x40\x00\x6F\x00\x40\x00\x6F\x00\x40\x00\x6F\x00\x40\x00\x6F\x00\x40\x00\x6F\x00\x40\x00\x6F\x00\x40\x00\x6F\x00\x40\x00\x6F\x00\x40\x00\x6F\x00\x40\x00\x6F\x00\x40\x00\x6F\x00\x40\x00\x6F\x00\x40\x00\x6F\x00\x40\x00\x6F\x00\x40\x00",
         steps: b"17",
@@ -313,7 +313,7 @@ const SAMPLED: [Case; 28] = [
     // interrupt 3 is enabled, then jal x0, 0
     Case {
         name: "an interrupt is raised at the task's own step",
-        task: b"16 16 0 4 0 0",
+        task: b"16 0 4 0 0",
         irqs: b"irq 0 5 3\n",
         image: b"\x93\x02\x80\x00\x73\x90\x42\x30\x73\x90\x02\x30\x6F\x00\x00\x00",
         steps: b"6",
@@ -330,7 +330,7 @@ const SAMPLED: [Case; 28] = [
     // entry 15 is the popped call
     Case {
         name: "a popped entry is read back and called past",
-        task: b"24 24 0 84 0 0",
+        task: b"24 0 84 0 0",
         irqs: b"",
         image: b"\xEF\x00\x40\x00\x67\x80\x40\x00\x93\x02\xF0\x20\x73\x90\x02\x15\x73\x23\x10\x15\xE7\x00\x83\x01",
         steps: b"6",
@@ -343,7 +343,7 @@ const SAMPLED: [Case; 28] = [
     // jal x1, 4; SCTRCLR; jal x0, 0
     Case {
         name: "a clear between two transfers",
-        task: b"12 12 0 4 0 0",
+        task: b"12 0 4 0 0",
         irqs: b"",
         image: b"\xEF\x00\x40\x00\x73\x00\x40\x10\x6F\x00\x00\x00",
         steps: b"3",
@@ -356,7 +356,7 @@ const SAMPLED: [Case; 28] = [
     // sireg of entry 0 is 101
     Case {
         name: "an entry that the task wrote",
-        task: b"16 16 0 4 0 0",
+        task: b"16 0 4 0 0",
         irqs: b"",
         image: b"\x93\x02\x00\x20\x73\x90\x02\x15\x13\x03\x10\x10\x73\x10\x13\x15",
         steps: b"4",
@@ -369,7 +369,7 @@ const SAMPLED: [Case; 28] = [
     // jal x0, 4; sctrstatus is 0; jal x0, 4
     Case {
         name: "a pointer that the task turned back",
-        task: b"12 12 0 4 0 0",
+        task: b"12 0 4 0 0",
         irqs: b"",
         image: b"\x6F\x00\x40\x00\x73\x50\xF0\x14\x6F\x00\x40\x00",
         steps: b"2",
@@ -382,7 +382,7 @@ const SAMPLED: [Case; 28] = [
     // jal x0, 4; sctrstatus is 0; jal x0, 4
     Case {
         name: "a pointer that the task turned back, and a transfer",
-        task: b"12 12 0 4 0 0",
+        task: b"12 0 4 0 0",
         irqs: b"",
         image: b"\x6F\x00\x40\x00\x73\x50\xF0\x14\x6F\x00\x40\x00",
         steps: b"3",
@@ -395,7 +395,7 @@ const SAMPLED: [Case; 28] = [
     // FROZEN is set by the task
     Case {
         name: "a task that freezes its records",
-        task: b"16 16 0 4 0 0",
+        task: b"16 0 4 0 0",
         irqs: b"",
         image: b"\x6F\x00\x40\x00\xB7\x02\x00\x80\x73\x90\xF2\x14\x6F\x00\x40\x00",
         steps: b"4",
@@ -408,7 +408,7 @@ const SAMPLED: [Case; 28] = [
     // depth 32; the entries are gone
     Case {
         name: "a task that changes its depth",
-        task: b"16 16 0 4 0 0",
+        task: b"16 0 4 0 0",
         irqs: b"",
         image: b"\x6F\x00\x40\x00\x73\xD0\xF0\x15\x6F\x00\x40\x00\x73\xD0\xF3\x15",
         steps: b"4",
