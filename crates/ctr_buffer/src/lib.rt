@@ -7,12 +7,14 @@
 pub use event::{Event, Part};
 pub use history::{history_laws, perform, perform_all, replay};
 pub use list_store::ListStore;
+pub use ring_store::RingStore;
 pub use slot::Slot;
 pub use store::CtrStore;
 
 mod event;
 mod history;
 mod list_store;
+mod ring_store;
 mod slot;
 mod store;
 #[cfg(test)]

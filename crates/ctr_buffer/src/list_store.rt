@@ -1,23 +1,10 @@
-ghost use Rattle.std.specs.Prelude.{◌≡◌, ◌<◌, ◌≤◌, ◌-◌, ◌∷◌, length, replicate, take};
-ghost use Rattle.ctr_buffer.specs.Entry.{zero_entry};
+ghost use Rattle.std.specs.Prelude.{◌≡◌, ◌<◌, ◌≤◌, ◌-◌, ◌∷◌, length, take};
 ghost use Rattle.ctr_buffer.specs.Stack.{turned_slots};
 
-use crate::slot::Slot;
+use crate::slot::{Slot, zeros};
 use crate::store::CtrStore;
 use ctr_csrs::{Depth, entries};
 use std::marker::Model;
-
-const ZERO: Slot = Slot {
-    source: 0,
-    target: 0,
-    kind: 0,
-};
-
-fn zeros() -> [Slot; 256]
-    ensures { result ≡ replicate 256 zero_entry }
-{
-    [ZERO; 256]
-}
 
 // Puts a slot first and loses the last.
 fn put_first(slots: &mut [Slot], s: Slot)

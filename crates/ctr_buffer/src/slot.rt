@@ -1,5 +1,5 @@
-ghost use Rattle.std.specs.Prelude.{◌≡◌, ℕ};
-ghost use Rattle.ctr_buffer.specs.Entry.{unlinked};
+ghost use Rattle.std.specs.Prelude.{◌≡◌, ℕ, replicate};
+ghost use Rattle.ctr_buffer.specs.Entry.{zero_entry, unlinked};
 
 use std::marker::Model;
 
@@ -41,4 +41,17 @@ impl Slot {
             kind: self.kind,
         }
     }
+}
+
+const ZERO: Slot = Slot {
+    source: 0,
+    target: 0,
+    kind: 0,
+};
+
+// The entries of an empty store, of any depth.
+pub(crate) fn zeros() -> [Slot; 256]
+    ensures { result ≡ replicate 256 zero_entry }
+{
+    [ZERO; 256]
 }

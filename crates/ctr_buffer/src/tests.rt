@@ -1,7 +1,8 @@
 ghost use Rattle.std.specs.Prelude.{◌<◌};
 
 use super::*;
-use ctr_csrs::{Depth, entries};
+use ctr_csrs::{Depth, depth_of, entries};
+use std::process::Abort;
 
 // A slot that is told from the others by its source word, 2n + 1.
 fn slot(n: u64) -> Slot
@@ -14,10 +15,9 @@ fn slot(n: u64) -> Slot
     }
 }
 
-#[test]
-fn a_push_comes_first_and_the_oldest_is_lost_at_the_depth(rt: HostRuntime) {
+fn pushes<B: CtrStore + Drop>(rt: &impl Abort) {
     for depth in [Depth::D16, Depth::D32, Depth::D64, Depth::D128, Depth::D256] {
-        let mut store: ListStore = CtrStore::fresh(depth);
+        let mut store: B = CtrStore::fresh(depth);
         let size = entries(depth);
         assert_eq!(rt; store.depth(), depth);
         for n in 0..=u64::from(size) {
@@ -35,8 +35,13 @@ fn a_push_comes_first_and_the_oldest_is_lost_at_the_depth(rt: HostRuntime) {
 }
 
 #[test]
-fn a_write_of_the_pointer_makes_another_slot_the_youngest(rt: HostRuntime) {
-    let mut store: ListStore = CtrStore::fresh(Depth::D16);
+fn a_push_comes_first_and_the_oldest_is_lost_at_the_depth(rt: HostRuntime) {
+    pushes::<ListStore>(&rt);
+    pushes::<RingStore>(&rt);
+}
+
+fn turns_two<B: CtrStore + Drop>(rt: &impl Abort) {
+    let mut store: B = CtrStore::fresh(Depth::D16);
     store.push(slot(1));
     store.push(slot(2));
     store.set_wrptr(1);
@@ -51,6 +56,12 @@ fn a_write_of_the_pointer_makes_another_slot_the_youngest(rt: HostRuntime) {
         assert!(rt; i < entries(store.depth()));
         assert_eq!(rt; store.slot(i), Slot::default(), "slot {i} of another depth");
     }
+}
+
+#[test]
+fn a_write_of_the_pointer_makes_another_slot_the_youngest(rt: HostRuntime) {
+    turns_two::<ListStore>(&rt);
+    turns_two::<RingStore>(&rt);
 }
 
 // For each pointer before (a line) and after (a place in it) at depth 16, the slot that becomes the youngest. Worked out
@@ -80,11 +91,10 @@ const ROUND: [u8; 32] = [
     13, 14, 15,
 ];
 
-#[test]
-fn every_pair_of_pointers_turns_sixteen_slots_by_the_table(rt: HostRuntime) {
+fn turns_sixteen<B: CtrStore + Drop>(rt: &impl Abort) {
     for before in 0..16 {
         for after in 0..16 {
-            let mut store: ListStore = CtrStore::fresh(Depth::D16);
+            let mut store: B = CtrStore::fresh(Depth::D16);
             assert!(rt; u16::from(before) < entries(store.depth()));
             store.set_wrptr(before);
             for n in 0..16 {
@@ -106,7 +116,12 @@ fn every_pair_of_pointers_turns_sixteen_slots_by_the_table(rt: HostRuntime) {
 }
 
 #[test]
-fn the_greatest_depth_turns_at_its_ends(rt: HostRuntime) {
+fn every_pair_of_pointers_turns_sixteen_slots_by_the_table(rt: HostRuntime) {
+    turns_sixteen::<ListStore>(&rt);
+    turns_sixteen::<RingStore>(&rt);
+}
+
+fn turns_at_the_ends<B: CtrStore + Drop>(rt: &impl Abort) {
     for (before, after, youngest, oldest) in [
         (0, 0, 0, 255),
         (255, 255, 0, 255),
@@ -118,7 +133,7 @@ fn the_greatest_depth_turns_at_its_ends(rt: HostRuntime) {
         (1, 255, 2, 1),
         (128, 0, 128, 127),
     ] {
-        let mut store: ListStore = CtrStore::fresh(Depth::D256);
+        let mut store: B = CtrStore::fresh(Depth::D256);
         assert!(rt; u16::from(before) < entries(store.depth()));
         store.set_wrptr(before);
         for n in 0..256 {
@@ -142,7 +157,12 @@ fn the_greatest_depth_turns_at_its_ends(rt: HostRuntime) {
 }
 
 #[test]
-fn a_history_leaves_what_its_events_say(rt: HostRuntime) {
+fn the_greatest_depth_turns_at_its_ends(rt: HostRuntime) {
+    turns_at_the_ends::<ListStore>(&rt);
+    turns_at_the_ends::<RingStore>(&rt);
+}
+
+fn follows_a_history<B: CtrStore + Drop>(rt: &impl Abort) {
     let history = [
         Event::Push(slot(1)),
         Event::Push(slot(2)),
@@ -153,7 +173,7 @@ fn a_history_leaves_what_its_events_say(rt: HostRuntime) {
         Event::Poke(1, Part::Target, 0x20),
         Event::Poke(1, Part::Kind, 15),
     ];
-    let store: ListStore = replay(Depth::D16, &history);
+    let store: B = replay(Depth::D16, &history);
     assert!(rt; entries(store.depth()) == 16);
     let poked = Slot {
         source: 0x10,
@@ -178,9 +198,14 @@ fn a_history_leaves_what_its_events_say(rt: HostRuntime) {
 }
 
 #[test]
-fn clearing_keeps_the_pointer_and_another_depth_does_not(rt: HostRuntime) {
+fn a_history_leaves_what_its_events_say(rt: HostRuntime) {
+    follows_a_history::<ListStore>(&rt);
+    follows_a_history::<RingStore>(&rt);
+}
+
+fn clears<B: CtrStore + Drop>(rt: &impl Abort) {
     let history = [Event::Push(slot(1)), Event::Push(slot(2)), Event::Clear];
-    let mut store: ListStore = replay(Depth::D16, &history);
+    let mut store: B = replay(Depth::D16, &history);
     assert_eq!(rt; store.wrptr(), 2);
     assert!(rt; entries(store.depth()) == 16);
     assert_eq!(rt; store.slot(0), Slot::default());
@@ -190,4 +215,55 @@ fn clearing_keeps_the_pointer_and_another_depth_does_not(rt: HostRuntime) {
     perform(&mut store, Event::Pop);
     assert_eq!(rt; store.wrptr(), 255, "one less than 0, modulo 256");
     history_laws();
+}
+
+#[test]
+fn clearing_keeps_the_pointer_and_another_depth_does_not(rt: HostRuntime) {
+    clears::<ListStore>(&rt);
+    clears::<RingStore>(&rt);
+}
+
+// A call that the number picks: mostly pushes, and now and then a clear or another depth.
+fn call<B: CtrStore>(store: &mut B, number: u64) {
+    let size = entries(store.depth());
+    let next = number / 1024;
+    let new = slot(next % 1000);
+    match number % 1024 {
+        0 => store.clear(),
+        1..=4 => {
+            if let Some(depth) = depth_of(next % 5) {
+                store.set_depth(depth);
+            }
+        }
+        5..=200 => store.pop(),
+        201..=250 => store.swap(new),
+        251..=300 => store.set_wrptr((next % u64::from(size)) as u8),
+        301..=400 => store.set_slot((next % u64::from(size)) as u16, new),
+        _ => store.push(new),
+    }
+}
+
+// The two stores hold the same at every slot.
+fn agree(rt: &impl Abort, list: &ListStore, ring: &RingStore, step: u64) {
+    assert_eq!(rt; ring.wrptr(), list.wrptr(), "WRPTR after call {step}");
+    assert_eq!(rt; ring.depth(), list.depth(), "the depth after call {step}");
+    for i in 0..entries(list.depth()) {
+        assert!(rt; i < entries(ring.depth()));
+        assert_eq!(rt; ring.slot(i), list.slot(i), "slot {i} after call {step}");
+    }
+}
+
+#[test]
+fn a_ring_and_a_list_hold_the_same_after_each_of_5000_calls(rt: HostRuntime) {
+    let mut list: ListStore = CtrStore::fresh(Depth::D16);
+    let mut ring: RingStore = CtrStore::fresh(Depth::D16);
+    let mut state = 1u64;
+    for step in 0..5000 {
+        state = state
+            .wrapping_mul(6_364_136_223_846_793_005)
+            .wrapping_add(1_442_695_040_888_963_407);
+        call(&mut list, state / 65536);
+        call(&mut ring, state / 65536);
+        agree(&rt, &list, &ring, step);
+    }
 }

@@ -1,1 +1,2 @@
 pub mod PickedRow
+mod BitLemmas

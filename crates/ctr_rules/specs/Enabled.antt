@@ -3,6 +3,7 @@
 use Rattle.std.specs.Prelude.{ℕ, Bool, false, List, Option, Some, None}
 use Rattle.ctr_csrs.specs.declared.mode.Mode.{Mode}
 use Rattle.ctr_csrs.specs.declared.mode.Mode.TheVariants as modes
+use Rattle.ctr_csrs.specs.declared.control_bit.ControlBit.{ControlBit}
 use Rattle.ctr_csrs.specs.declared.control_bit.ControlBit.TheVariants as bits
 use Rattle.ctr_csrs.specs.ControlFigure.{is_on}
 use Rattle.ctr_csrs.specs.TrapEnables.{TrapEnable, needed, are_set}
@@ -14,6 +15,14 @@ enables m vs modes.S = is_on m bits.S
 enables m vs modes.U = is_on m bits.U
 enables m vs modes.Vs = is_on vs bits.S
 enables m vs modes.Vu = is_on vs bits.U
+
+-- the bit that enables a mode, in the one register or in the other
+abbrev pub mode_bit : Mode → ControlBit
+mode_bit modes.M = bits.M
+mode_bit modes.S = bits.S
+mode_bit modes.U = bits.U
+mode_bit modes.Vs = bits.S
+mode_bit modes.Vu = bits.U
 
 -- whether all bits of a list are set; false where there is no list
 abbrev pub are_all_set : ℕ → ℕ → Option (List TrapEnable) → Bool

@@ -1,5 +1,6 @@
 -- The filter bits (RISC-V Control Transfer Records 1.0, "Transfer Type Filtering").
-use Rattle.std.specs.Prelude.{ℕ, Bool, cond, not, ◌||◌}
+use Rattle.std.specs.Prelude.{ℕ, Bool, true, false, cond, not, ◌||◌}
+use Rattle.ctr_csrs.specs.declared.control_bit.ControlBit.{ControlBit}
 use Rattle.ctr_csrs.specs.declared.control_bit.ControlBit.TheVariants as bits
 use Rattle.ctr_csrs.specs.ControlFigure.{is_on}
 use Rattle.ctr_csrs.specs.Modes.{is_virtual}
@@ -26,3 +27,23 @@ inhibits word kinds.Swap = is_on word bits.Corswapinh
 inhibits word kinds.Return = is_on word bits.Retinh
 inhibits word kinds.IndirectLinkJump = is_on word bits.Indljmpinh
 inhibits word kinds.DirectLinkJump = is_on word bits.Dirljmpinh
+
+-- the bit that this goes by, and whether the bit lets in
+abbrev pub filter_bit : XferType → ControlBit
+filter_bit kinds.Exception = bits.Excinh
+filter_bit kinds.Interrupt = bits.Intrinh
+filter_bit kinds.TrapReturn = bits.Tretinh
+filter_bit kinds.NotTaken = bits.Ntbren
+filter_bit kinds.Taken = bits.Tkbrinh
+filter_bit kinds.IndirectCall = bits.Indcallinh
+filter_bit kinds.DirectCall = bits.Dircallinh
+filter_bit kinds.IndirectJump = bits.Indjmpinh
+filter_bit kinds.DirectJump = bits.Dirjmpinh
+filter_bit kinds.Swap = bits.Corswapinh
+filter_bit kinds.Return = bits.Retinh
+filter_bit kinds.IndirectLinkJump = bits.Indljmpinh
+filter_bit kinds.DirectLinkJump = bits.Dirljmpinh
+
+abbrev pub lets_in : XferType → Bool
+lets_in kinds.NotTaken = true
+lets_in _ = false

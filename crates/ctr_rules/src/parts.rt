@@ -1,7 +1,7 @@
 ghost use Rattle.std.specs.Prelude.{◌≡◌};
 ghost use Rattle.ctr_csrs.specs.Modes.{is_virtual};
-ghost use Rattle.ctr_rules.specs.Enabled.{enables, trap_enabled};
-ghost use Rattle.ctr_rules.specs.FilterBits.{filter_of, inhibits};
+ghost use Rattle.ctr_rules.specs.Enabled.{enables, mode_bit, trap_enabled};
+ghost use Rattle.ctr_rules.specs.FilterBits.{filter_of, filter_bit, lets_in, inhibits};
 ghost use Rattle.ctr_rules.specs.FreezeBits.{freezes_in, freezes};
 ghost use Rattle.ctr_rules.specs.RowTable.{is_trap};
 
@@ -10,15 +10,22 @@ use ctr_csrs::{Control, ControlBit, Mode};
 use xfer_class::XferType;
 
 // Whether transfers within the mode are recorded.
+#[tactic(auto, using(crate::proofs::BitLemmas::enabled_by_bit))]
 pub(crate) fn is_enabled(mode: Mode, m: Control, vs: Control) -> bool
     ensures { result ≡ enables m vs mode }
 {
+    let word = if is_guest(mode) { vs } else { m };
+    word.on(mode_bit(mode))
+}
+
+// The bit of a control register that enables the mode. Without a jump for each mode.
+fn mode_bit(mode: Mode) -> ControlBit
+    ensures { result ≡ mode_bit mode }
+{
     match mode {
-        Mode::M => m.on(ControlBit::M),
-        Mode::S => m.on(ControlBit::S),
-        Mode::U => m.on(ControlBit::U),
-        Mode::Vs => vs.on(ControlBit::S),
-        Mode::Vu => vs.on(ControlBit::U),
+        Mode::M => ControlBit::M,
+        Mode::S | Mode::Vs => ControlBit::S,
+        Mode::U | Mode::Vu => ControlBit::U,
     }
 }
 
@@ -46,23 +53,39 @@ pub(crate) fn is_of_a_trap(kind: XferType) -> bool
 }
 
 // Whether the filter register keeps the transfer type out.
+#[tactic(auto, using(crate::proofs::BitLemmas::inhibited_by_bit))]
 pub(crate) fn is_inhibited(filter: Control, kind: XferType) -> bool
     ensures { result ≡ inhibits filter kind }
 {
+    let set = filter.on(filter_bit(kind));
+    if lets_in(kind) { !set } else { set }
+}
+
+// Whether the filter bit of the transfer type lets it in where it is set: NTBREN alone.
+fn lets_in(kind: XferType) -> bool
+    ensures { result ≡ lets_in kind }
+{
+    matches!(kind, XferType::NotTaken)
+}
+
+// The filter bit of a transfer type.
+fn filter_bit(kind: XferType) -> ControlBit
+    ensures { result ≡ filter_bit kind }
+{
     match kind {
-        XferType::Exception => filter.on(ControlBit::Excinh),
-        XferType::Interrupt => filter.on(ControlBit::Intrinh),
-        XferType::TrapReturn => filter.on(ControlBit::Tretinh),
-        XferType::NotTaken => !filter.on(ControlBit::Ntbren),
-        XferType::Taken => filter.on(ControlBit::Tkbrinh),
-        XferType::IndirectCall => filter.on(ControlBit::Indcallinh),
-        XferType::DirectCall => filter.on(ControlBit::Dircallinh),
-        XferType::IndirectJump => filter.on(ControlBit::Indjmpinh),
-        XferType::DirectJump => filter.on(ControlBit::Dirjmpinh),
-        XferType::Swap => filter.on(ControlBit::Corswapinh),
-        XferType::Return => filter.on(ControlBit::Retinh),
-        XferType::IndirectLinkJump => filter.on(ControlBit::Indljmpinh),
-        XferType::DirectLinkJump => filter.on(ControlBit::Dirljmpinh),
+        XferType::Exception => ControlBit::Excinh,
+        XferType::Interrupt => ControlBit::Intrinh,
+        XferType::TrapReturn => ControlBit::Tretinh,
+        XferType::NotTaken => ControlBit::Ntbren,
+        XferType::Taken => ControlBit::Tkbrinh,
+        XferType::IndirectCall => ControlBit::Indcallinh,
+        XferType::DirectCall => ControlBit::Dircallinh,
+        XferType::IndirectJump => ControlBit::Indjmpinh,
+        XferType::DirectJump => ControlBit::Dirjmpinh,
+        XferType::Swap => ControlBit::Corswapinh,
+        XferType::Return => ControlBit::Retinh,
+        XferType::IndirectLinkJump => ControlBit::Indljmpinh,
+        XferType::DirectLinkJump => ControlBit::Dirljmpinh,
     }
 }
 
@@ -97,11 +120,10 @@ fn is_freeze_bit_set(to: Mode, m: Control, vs: Control, bit: ControlBit) -> bool
     }
 }
 
-// Whether the transfer sets FROZEN.
+// Whether the transfer sets FROZEN. Most transfers are neither a breakpoint nor an overflow.
 pub(crate) fn is_freeze(transfer: Transfer, m: Control, vs: Control) -> bool
     ensures { result ≡ freezes transfer m vs }
 {
-    let by_breakpoint = is_freeze_bit_set(transfer.to, m, vs, ControlBit::Bpfrz);
-    let by_overflow = is_freeze_bit_set(transfer.to, m, vs, ControlBit::Lcofifrz);
-    transfer.breakpoint && by_breakpoint || transfer.lcofi && by_overflow
+    transfer.breakpoint && is_freeze_bit_set(transfer.to, m, vs, ControlBit::Bpfrz)
+        || transfer.lcofi && is_freeze_bit_set(transfer.to, m, vs, ControlBit::Lcofifrz)
 }

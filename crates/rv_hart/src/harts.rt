@@ -3,13 +3,13 @@ ghost use Rattle.std.specs.Prelude.{◌≡◌, ◌↔◌, ◌<◌, IsTrue, IfOk,
 ghost use Rattle.rv_hart.specs.State.{fresh_harts};
 
 use crate::hart::Hart;
-use ctr_buffer::{CtrStore, ListStore};
+use ctr_buffer::{CtrStore, RingStore};
 use ctr_port::NoMemory;
 use std::alloc::Global;
 use std::marker::Model;
 
 /// The store that the harts keep their records in.
-pub type Store = ListStore;
+pub type Store = RingStore;
 
 /// Sixteen harts, numbered from 0, made once on the heap. Contracts see them as a list.
 #[derive(Drop)]
@@ -33,7 +33,7 @@ impl Harts {
     ghost use Rattle.std.specs.Borrow.{sem, Lends};
     ghost use Rattle.rv_hart.specs.contracts.harts.Harts.{the_row};
     ghost use Rattle.rv_hart.specs.contracts.hart.Hart as hart;
-    ghost use Rattle.ctr_buffer.specs.contracts.list_store.ListStore as store;
+    ghost use Rattle.ctr_buffer.specs.contracts.ring_store.RingStore as store;
 
     /// Sixteen fresh harts.
     pub fn new(alloc: Global) -> Result<Harts, NoMemory>

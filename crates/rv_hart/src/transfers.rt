@@ -2,7 +2,7 @@
 ghost use Rattle.std.specs.Prelude.{◌≡◌, ◌%◌};
 ghost use Rattle.rv_hart.specs.Records.{entry_of, transferred};
 
-use ctr_buffer::{CtrStore, Event, Slot};
+use ctr_buffer::{CtrStore, Slot};
 use ctr_rules::{Act, Record, Transfer, act};
 use indirect_regs::CtrUnit;
 
@@ -27,9 +27,9 @@ pub(crate) fn carry<B: CtrStore>(unit: &mut CtrUnit<B>, transfer: Transfer)
 {
     match act(transfer, unit.m, unit.vs, unit.frozen) {
         Act::Nothing => {}
-        Act::Push(kept) => unit.perform(Event::Push(entry(kept))),
-        Act::Pop => unit.perform(Event::Pop),
-        Act::Swap(kept) => unit.perform(Event::Swap(entry(kept))),
+        Act::Push(kept) => unit.store.push(entry(kept)),
+        Act::Pop => unit.store.pop(),
+        Act::Swap(kept) => unit.store.swap(entry(kept)),
         Act::Freeze => unit.frozen = true,
     }
 }
