@@ -19,13 +19,13 @@ length_present : (layout place : ℕ) (bytes : List ℕ) → length bytes ≡ 8 
 length_present layout place bytes e =
     elim (has layout place) as (λ (b : Bool). length (if b then bytes else []) ≡ (if b then 8 else 0)) [ true ↦ e | false ↦ refl ]
 
-length_one : (layout place n : ℕ) → length (present layout place (le 8 n)) ≡ width layout place
+pub length_one : (layout place n : ℕ) → length (present layout place (le 8 n)) ≡ width layout place
 length_one layout place n = length_present layout place (le 8 n) (length_le 8 n)
 
-length_two : (layout place m n : ℕ) → length (present layout place (le 4 m ++ le 4 n)) ≡ width layout place
+pub length_two : (layout place m n : ℕ) → length (present layout place (le 4 m ++ le 4 n)) ≡ width layout place
 length_two layout place m n = length_present layout place (le 4 m ++ le 4 n) (omega (arith, length-append (le 4 m) (le 4 n), length_le 4 m, length_le 4 n))
 
-length_fields : (layout : ℕ) (s : Sample) → length (fields layout s) ≡ fields_len layout
+pub length_fields : (layout : ℕ) (s : Sample) → length (fields layout s) ≡ fields_len layout
 unfolding fields fields_len
 length_fields layout s =
     let a = present layout 16 (le 8 s.identifier) in
@@ -58,7 +58,7 @@ length_fields layout s =
       length_one layout 8 s.period,
     )
 
-length_branches : (bs : List Branch) → length (flat_map branch_bytes bs) ≡ 24 * length bs
+pub length_branches : (bs : List Branch) → length (flat_map branch_bytes bs) ≡ 24 * length bs
 length_branches [] = refl
 length_branches (b ∷ bs) =
     omega (
@@ -79,7 +79,7 @@ before s = le 4 9 ++ le 2 s.misc
 abbrev behind : ℕ → Sample → List ℕ
 behind layout s = fields layout s ++ (le 8 (length s.branches) ++ flat_map branch_bytes s.branches)
 
-abbrev size_of : ℕ → Sample → ℕ
+abbrev pub size_of : ℕ → Sample → ℕ
 size_of layout s = fixed_len layout + 24 * length s.branches
 
 parts : (layout : ℕ) (s : Sample) → spelling layout s ≡ before s ++ (le 2 (size_of layout s) ++ behind layout s)
@@ -119,13 +119,13 @@ length_spelling layout s =
 width_most : (layout place : ℕ) → width layout place ≤ 8
 width_most layout place = elim (has layout place) as (λ (b : Bool). (if b then 8 else 0) ≤ 8) [ true ↦ omega arith | false ↦ omega arith ]
 
-fixed_most : (layout : ℕ) → fixed_len layout ≤ 88
+pub fixed_most : (layout : ℕ) → fixed_len layout ≤ 88
 unfolding fixed_len fields_len
 fixed_most layout =
     omega (arith, width_most layout 16, width_most layout 0, width_most layout 1, width_most layout 2, width_most layout 3, width_most layout 6, width_most layout 9, width_most layout 7, width_most layout 8)
 
 -- the size field
-size_at : List ℕ → ℕ
+pub size_at : List ℕ → ℕ
 size_at bytes = little_number 2 (drop 6 bytes)
 
 behind_before : (s : Sample) (rest : List ℕ) → drop 6 (before s ++ rest) ≡ rest
@@ -142,10 +142,10 @@ told layout s bytes spells =
     ∙ little_number-reads_back 2 (size_of layout s) (behind layout s) small
 
 -- it is the length of the bytes, and tells it whatever follows
-length_told : (layout : ℕ) (s : Sample) (bytes : List ℕ) → Spells layout s bytes → length bytes ≡ size_at bytes
+pub length_told : (layout : ℕ) (s : Sample) (bytes : List ℕ) → Spells layout s bytes → length bytes ≡ size_at bytes
 length_told layout s bytes spells = ap length spells.bytes_are ∙ length_spelling layout s ∙ sym (told layout s bytes spells)
 
-size_stays : (bytes more : List ℕ) → 8 ≤ length bytes → size_at (bytes ++ more) ≡ size_at bytes
+pub size_stays : (bytes more : List ℕ) → 8 ≤ length bytes → size_at (bytes ++ more) ≡ size_at bytes
 unfolding size_at
 size_stays bytes more enough =
     ap (little_number 2) (drop-append-le 6 bytes more (omega (arith, enough)))

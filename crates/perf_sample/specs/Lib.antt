@@ -1,3 +1,8 @@
 pub mod Layout
 pub mod Spelling
+pub mod Breaks
+pub mod Reading
+pub mod Rows
+pub mod Range
+pub mod Reader
 pub mod PerfType

@@ -2,6 +2,7 @@
 
 ghost use Rattle.std.specs.Prelude.{◌≡◌, ◌≤◌, ◌<◌, IsTrue, IsNone, IfSome, ◌↔◌};
 ghost use Rattle.perf_sample.specs.Layout.{IsLayout, has, width, fixed_len, LeftOut, FlagsFit, Fits};
+ghost use Rattle.perf_sample.specs.Breaks.{is_size};
 
 use crate::sample::{Branch, Sample};
 use std::marker::Model;
@@ -103,6 +104,14 @@ impl Layout {
             + self.width(STREAM_ID)
             + self.width(CPU)
             + self.width(PERIOD)
+    }
+
+    // Whether a sample may have this size, by how many branches it has.
+    pub(crate) fn is_size(self, size: u16) -> bool
+        ensures { result ≡ is_size self size }
+    {
+        let fixed = self.fixed_len();
+        size >= fixed && size <= fixed + 24 * 256 && (size - fixed) % 24 == 0
     }
 
     // Whether a field has the value that the layout lets it have: any where it is there, 0 where it is left out.

@@ -3,17 +3,27 @@
 //! A layout says which fields a sample has. `encode` writes a sample as the one spelling that its layout gives it.
 #![tactic(auto)]
 
+mod branch;
 mod branches;
+mod faults;
+mod fields;
+mod header;
 mod laws;
 mod layout;
+mod numbers;
 mod perf_types;
+mod reader;
+mod rows;
 mod sample;
+mod whole;
 mod writing;
 
 pub use branches::Branches;
+pub use faults::{Place, SampleFault};
 pub use laws::no_proper_prefix;
 pub use layout::Layout;
 pub use perf_types::perf_type;
+pub use reader::SampleReader;
 pub use sample::{Branch, Sample};
 pub use writing::{Buffer, encode};
 

@@ -1,0 +1,92 @@
+//! A branch, read field by field.
+
+ghost use Rattle.std.specs.Prelude.{◌≡◌, ◌≤◌, All, IfOk};
+ghost use Rattle.ctr_port.specs.Counts.{Rose};
+ghost use Rattle.perf_sample.specs.Range.{IsBranch};
+ghost use Rattle.perf_sample.specs.Reading.{TakesPlace, TakesNumber, TakesBranch, TakesBranches, TakesNr};
+
+use crate::branches::Branches;
+use crate::faults::{Place, SampleFault};
+use crate::fields::{Stop, read_field};
+use crate::layout::Layout;
+use crate::numbers::number;
+use crate::sample::Branch;
+use ctr_port::Source;
+
+/// Reads the field of a place.
+pub(crate) fn read_place<S: Source>(source: &mut S, place: Place) -> Result<[u8; 8], SampleFault>
+    ensures takes { TakesPlace place (S.left source.old) (S.left source.new) result }
+    ensures later { S.faults source.old ≤ S.faults source.new }
+    ensures cause { result ≡ Err SampleFault.ReadFault → Rose (S.faults source.old) (S.faults source.new) }
+{
+    match read_field(source) {
+        Ok(bytes) => Ok(bytes),
+        Err(stop) => match stop {
+            Stop::Ended(_) => Err(SampleFault::Short(place)),
+            Stop::Failed => Err(SampleFault::ReadFault),
+        },
+    }
+}
+
+/// Reads a number in a field of its own.
+pub(crate) fn read_number<S: Source>(source: &mut S, place: Place) -> Result<u64, SampleFault>
+    ensures takes { TakesNumber place (S.left source.old) (S.left source.new) result }
+    ensures later { S.faults source.old ≤ S.faults source.new }
+    ensures cause { result ≡ Err SampleFault.ReadFault → Rose (S.faults source.old) (S.faults source.new) }
+{
+    let bytes = read_place(source, place)?;
+    Ok(number(&bytes))
+}
+
+/// Reads the branch of this number.
+pub(crate) fn read_branch<S: Source>(source: &mut S, number: u16) -> Result<Branch, SampleFault>
+    ensures takes { TakesBranch number (S.left source.old) (S.left source.new) result }
+    ensures range { IfOk result IsBranch }
+    ensures later { S.faults source.old ≤ S.faults source.new }
+    ensures cause { result ≡ Err SampleFault.ReadFault → Rose (S.faults source.old) (S.faults source.new) }
+{
+    let from = read_number(source, Place::From(number))?;
+    let to = read_number(source, Place::To(number))?;
+    let flags = read_number(source, Place::Flags(number))?;
+    if flags >> 33 != 0 {
+        return Err(SampleFault::FlagReserved(number));
+    }
+    Ok(Branch { from, to, flags })
+}
+
+/// Reads so many branches, youngest first.
+pub(crate) fn read_branches<S: Source>(source: &mut S, nr: u16) -> Result<Branches, SampleFault>
+    requires { nr ≤ 256 }
+    ensures takes { TakesBranches nr (S.left source.old) (S.left source.new) result }
+    ensures range { IfOk result (All IsBranch) }
+    ensures later { S.faults source.old ≤ S.faults source.new }
+    ensures cause { result ≡ Err SampleFault.ReadFault → Rose (S.faults source.old) (S.faults source.new) }
+{
+    let mut branches = Branches::new();
+    for number in 0..nr {
+        let branch = read_branch(source, number)?;
+        branches.push(branch);
+    }
+    Ok(branches)
+}
+
+/// Reads how many branches a sample of this size has.
+pub(crate) fn read_nr<S: Source>(
+    source: &mut S,
+    layout: Layout,
+    size: u16,
+) -> Result<u16, SampleFault>
+    ensures takes { TakesNr layout size (S.left source.old) (S.left source.new) result }
+    ensures later { S.faults source.old ≤ S.faults source.new }
+    ensures cause { result ≡ Err SampleFault.ReadFault → Rose (S.faults source.old) (S.faults source.new) }
+{
+    let nr = read_number(source, Place::Nr)?;
+    if nr > 256 {
+        return Err(SampleFault::Count);
+    }
+    let nr = nr as u16;
+    if size != layout.fixed_len() + 24 * nr {
+        return Err(SampleFault::Size);
+    }
+    Ok(nr)
+}

@@ -1,0 +1,34 @@
+//! One field of eight bytes, read as far as it goes.
+
+ghost use Rattle.std.specs.Prelude.{◌≡◌, ◌≤◌};
+ghost use Rattle.ctr_port.specs.Counts.{Rose};
+ghost use Rattle.perf_sample.specs.Reading.{TakesField};
+
+use ctr_port::{Got, Source};
+
+/// Why there is no whole field.
+#[derive(Clone, Copy)]
+pub(crate) enum Stop {
+    /// The input ended after so many bytes of it.
+    Ended(usize),
+    /// A read failed.
+    Failed,
+}
+
+/// Reads the eight bytes of a field, and none beyond them.
+pub(crate) fn read_field<S: Source>(source: &mut S) -> Result<[u8; 8], Stop>
+    ensures takes { TakesField (S.left source.old) (S.left source.new) result }
+    ensures later { S.faults source.old ≤ S.faults source.new }
+    ensures cause { result ≡ Err Stop.Failed → Rose (S.faults source.old) (S.faults source.new) }
+{
+    let mut bytes = [0u8; 8];
+    let mut at = 0;
+    while at < 8 {
+        match source.read(&mut bytes[at..]) {
+            Got::Bytes(count) => at += count,
+            Got::End => return Err(Stop::Ended(at)),
+            Got::Failed => return Err(Stop::Failed),
+        }
+    }
+    Ok(bytes)
+}

@@ -1,0 +1,49 @@
+//! A whole sample, read from left to right.
+
+ghost use Rattle.std.specs.Prelude.{◌≡◌, ◌≤◌, IfOk, IfSome};
+ghost use Rattle.ctr_port.specs.Counts.{Rose};
+ghost use Rattle.perf_sample.specs.Range.{IsSample};
+ghost use Rattle.perf_sample.specs.Reading.{TakesSample};
+
+use crate::branch::{read_branches, read_nr};
+use crate::branches::Branches;
+use crate::faults::SampleFault;
+use crate::header::read_header;
+use crate::layout::Layout;
+use crate::rows::read_rows;
+use crate::sample::Sample;
+use ctr_port::Source;
+
+/// Reads a sample; none where the input ends in place of it.
+pub(crate) fn read_sample<S: Source>(
+    source: &mut S,
+    layout: Layout,
+) -> Result<Option<Sample>, SampleFault>
+    ensures takes { TakesSample layout (S.left source.old) (S.left source.new) result }
+    ensures range { IfOk result (λ next. IfSome next IsSample) }
+    ensures later { S.faults source.old ≤ S.faults source.new }
+    ensures cause { result ≡ Err SampleFault.ReadFault → Rose (S.faults source.old) (S.faults source.new) }
+{
+    let header = match read_header(source, layout)? {
+        Some(header) => header,
+        None => return Ok(None),
+    };
+    let mut sample = Sample {
+        misc: header.misc,
+        identifier: 0,
+        ip: 0,
+        pid: 0,
+        tid: 0,
+        time: 0,
+        addr: 0,
+        id: 0,
+        stream_id: 0,
+        cpu: 0,
+        period: 0,
+        branches: Branches::new(),
+    };
+    read_rows(source, layout, &mut sample)?;
+    let nr = read_nr(source, layout, header.size)?;
+    sample.branches = read_branches(source, nr)?;
+    Ok(Some(sample))
+}
