@@ -34,7 +34,7 @@ use Rattle.rv_hart.specs.Core.{CoreState, plus, reg, put}
 use Rattle.rv_hart.specs.Memory.{base, place_of, bytes_of, loaded, stored}
 use Rattle.rv_hart.specs.Effect.{Effect, effect, even, raises, goes_to, jumps, branches, loads, loads_at, stores, stores_at, call_cause, machine_return, supervisor_return}
 use Rattle.rv_hart.specs.Records.{events_by, act_in}
-use Rattle.rv_hart.specs.Step.{Live, Made, events_of, trap_transfer, return_transfer, jump_transfer, trapped, concluded, answered, refused, clears, by_effect, executed, by_instruction, by_word, by_interrupt, fetched, lowered, raised, use_of, any_event}
+use Rattle.rv_hart.specs.Step.{Live, trap_transfer, return_transfer, jump_transfer, trapped, concluded, answered, clears, by_effect, executed, by_instruction, by_word, by_interrupt, fetched, lowered, raised, use_of, any_event}
 use Rattle.rv_hart.specs.StepLaws.{Leaves, ExceptionsWriteNothing, MemoryKeepsItsSize, NoStepChangesX0, AtMostOneEvent}
 
 -- what holds of both values of a choice holds of the choice
@@ -47,7 +47,7 @@ pub record Shapes (P : Effect → Type 0) (c : CoreState) (bytes : List ℕ) : T
   pub writes : (rd value : ℕ) (kind : Option XferType) (pc : ℕ) → P (record { core = put c rd value; bytes = bytes; outcome = Goes kind pc })
   pub goes : (kind : Option XferType) (pc : ℕ) → P (record { core = c; bytes = bytes; outcome = Goes kind pc })
   pub stores : (width : Width) (value at pc : ℕ) → at + bytes_of width ≤ length bytes
-    → P (record { core = c; bytes = stored width value bytes at; outcome = Goes None pc })
+      → P (record { core = c; bytes = stored width value bytes at; outcome = Goes None pc })
   pub returns : (ret : Ret) → P (record { core = c; bytes = bytes; outcome = Returns ret })
   pub raises : (cause value : ℕ) → P (raises cause value c bytes)
 
@@ -164,8 +164,17 @@ length_stored width value bytes at within =
     let new = take count (little_bytes 8 value) in
     let rest = drop (at + count) bytes in
     let eight : length (little_bytes 8 value) ≡ 8 = refl in
-    omega (arith, length-append (take at bytes) (new ++ rest), length-append new rest, length-take at bytes,
-    length-take count (little_bytes 8 value), length-drop (at + count) bytes, within, few_bytes width, eight)
+    omega (
+      arith,
+      length-append (take at bytes) (new ++ rest),
+      length-append new rest,
+      length-take at bytes,
+      length-take count (little_bytes 8 value),
+      length-drop (at + count) bytes,
+      within,
+      few_bytes width,
+      eight,
+    )
 
 pub effect_size : (i : Instr) (word : ℕ) (c : CoreState) (bytes : List ℕ) → length (effect i word c bytes).bytes ≡ length bytes
 effect_size i word c bytes =

@@ -1,5 +1,5 @@
 -- What a task begins with, and what becomes pending at its steps.
-use Rattle.std.proofs.Common.{◌≡◌, refl, ap, subst, ℕ, ◌+◌, ◌^◌, ◌/◌, ◌%◌, Bool, true, false, IsTrue, nat_eq, List, [], ◌∷◌, cond, inl, inr, bit_and, bit_or, arith}
+use Rattle.std.proofs.Common.{◌≡◌, refl, ap, subst, ℕ, ◌^◌, ◌/◌, ◌%◌, Bool, true, false, IsTrue, nat_eq, List, [], ◌∷◌, cond, inl, inr, bit_and, bit_or, arith}
 use Rattle.std.specs.List.{list_all}
 use Rattle.std.proofs.lemmas.Bool.{and_parts, or_cases, eqb-true}
 use Rattle.std.proofs.lemmas.Nat.Bits.{bit_at_and, bit_at_or, same_from_bits}
