@@ -1,13 +1,12 @@
 -- Bytes begin with the spelling of one sample at most, and then they have no break.
-use Rattle.std.proofs.Common.{◌≡◌, ℕ, zero, suc, ◌+◌, ◌*◌, ◌-◌, ◌%◌, ◌^◌, ◌<◌, ◌≤◌, ◌&&◌, List, [], ◌∷◌, ◌++◌, length, take, drop, Bool, true, false, if◌then◌else◌, nat_le, nat_eq, Option, Some, None, refl, sym, ap, ◌∙◌, subst, arith, append_assoc, append-nil, length-append}
+use Rattle.std.proofs.Common.{◌≡◌, ℕ, ◌+◌, ◌*◌, ◌-◌, ◌%◌, ◌^◌, ◌<◌, ◌≤◌, List, [], ◌∷◌, ◌++◌, length, take, drop, Bool, true, false, if◌then◌else◌, nat_le, nat_eq, None, refl, sym, ap, ◌∙◌, arith, append_assoc, length-append}
 use Rattle.std.proofs.Math.Seq.{take-append_seam, drop-append_seam}
 use Rattle.std.proofs.lemmas.Bool.{le-leb, eq-eqb}
 use Rattle.std.proofs.lemmas.List.Elements.{All-head, All-tail}
 use Rattle.std.specs.List.{All, flat_map}
 use Rattle.perf_sample.specs.declared.sample.Branch.{Branch}
 use Rattle.perf_sample.specs.declared.sample.Sample.{Sample}
-use Rattle.perf_sample.specs.declared.faults.SampleFault.{SampleFault}
-use Rattle.perf_sample.specs.Layout.{has, width, fields_len, fixed_len, LeftOut, Fits}
+use Rattle.perf_sample.specs.Layout.{has, fixed_len, LeftOut, Fits}
 use Rattle.perf_sample.specs.Spelling.{le, present, fields, branch_bytes, spelling, Spells}
 use Rattle.perf_sample.specs.Breaks.{number_at, is_size, first_of, first_break, branch_fields}
 use Rattle.perf_sample.specs.Range.{IsBranch, IsSample}
@@ -70,10 +69,10 @@ two_by true m n p q offm offn offp offq hm hn hp hq e =
     (le_same 4 m p hm hp parts.0, le_same 4 n q hn hq parts.1)
 two_by false m n p q offm offn offp offq hm hn hp hq e = (offm refl ∙ sym (offp refl), offn refl ∙ sym (offq refl))
 
-abbrev the_branch : ℕ → ℕ → ℕ → Branch
+abbrev pub the_branch : ℕ → ℕ → ℕ → Branch
 the_branch from to flags = record { from = from; to = to; flags = flags }
 
-abbrev the_sample : ℕ → ℕ → ℕ → ℕ → ℕ → ℕ → ℕ → ℕ → ℕ → ℕ → ℕ → List Branch → Sample
+abbrev pub the_sample : ℕ → ℕ → ℕ → ℕ → ℕ → ℕ → ℕ → ℕ → ℕ → ℕ → ℕ → List Branch → Sample
 the_sample misc identifier ip pid tid time addr id stream_id cpu period branches = record {
   misc = misc;
   identifier = identifier;
@@ -206,12 +205,17 @@ spelling_same layout s t f g is it few less e =
     let misc = cut_front (le 4 9) (le 4 9) (le 2 s.misc) (le 2 t.misc) refl first.0 in
     sample_same s t (le_same 2 s.misc t.misc is.misc it.misc misc.1) (fields_same layout s t f g is it second.1) (branches_same s.branches t.branches counts is.branches it.branches last.1)
 
--- bytes begin with one spelling at most, and of one sample
-pub one_spelling : (layout : ℕ) (s t : Sample) (x y z w : List ℕ) → IsSample s → IsSample t → Spells layout s x → Spells layout t y → x ++ z ≡ y ++ w → (s ≡ t) × (x ≡ y) × (z ≡ w)
+-- bytes begin with one spelling at most
+pub one_length : (layout : ℕ) (s t : Sample) (x y z w : List ℕ) → Spells layout s x → Spells layout t y → x ++ z ≡ y ++ w → (x ≡ y) × (z ≡ w)
 unfolding fixed_len
-one_spelling layout s t x y z w is it first second e =
+one_length layout s t x y z w first second e =
     let long : 8 ≤ length x = omega (arith, ap length first.bytes_are, length_spelling layout s) in
     let much : 8 ≤ length y = omega (arith, ap length second.bytes_are, length_spelling layout t) in
     let len : length x ≡ length y = length_told layout s x first ∙ sym (size_stays x z long) ∙ ap size_at e ∙ size_stays y w much ∙ sym (length_told layout t y second) in
-    let parts = cut_front x y z w len e in
+    cut_front x y z w len e
+
+-- and of one sample
+pub one_spelling : (layout : ℕ) (s t : Sample) (x y z w : List ℕ) → IsSample s → IsSample t → Spells layout s x → Spells layout t y → x ++ z ≡ y ++ w → (s ≡ t) × (x ≡ y) × (z ≡ w)
+one_spelling layout s t x y z w is it first second e =
+    let parts = one_length layout s t x y z w first second e in
     (spelling_same layout s t first.fits second.fits is it first.few second.few (sym first.bytes_are ∙ parts.0 ∙ second.bytes_are), parts.0, parts.1)

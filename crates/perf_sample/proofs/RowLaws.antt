@@ -1,5 +1,5 @@
 -- The fields between the header and the number of branches, row by row.
-use Rattle.std.proofs.Common.{◌≡◌, ◌≢◌, ℕ, zero, suc, ◌+◌, ◌-◌, ◌^◌, ◌<◌, ◌≤◌, List, [], ◌∷◌, ◌++◌, length, take, drop, get_or, Bool, true, false, if◌then◌else◌, nat_eq, Option, Some, None, Result, Ok, Err, refl, sym, ap, ◌∙◌, subst, arith, append_assoc, append-nil, add-one, length-append, take-append-drop, drop-cons}
+use Rattle.std.proofs.Common.{◌≡◌, ℕ, zero, suc, ◌+◌, ◌^◌, ◌<◌, List, [], ◌∷◌, ◌++◌, length, take, drop, get_or, Bool, true, false, if◌then◌else◌, Option, Some, None, Result, Ok, Err, refl, sym, ap, ◌∙◌, subst, arith, append_assoc, append-nil, add-one, length-append, take-append-drop, drop-cons}
 use Rattle.std.proofs.lemmas.Bool.{true≢false, false≢true, ne_eqb}
 use Rattle.std.proofs.lemmas.Grind.{flat_map-append}
 use Rattle.std.proofs.lemmas.List.{take_more}
@@ -12,7 +12,7 @@ use Rattle.perf_sample.specs.declared.faults.Place.{Place}
 use Rattle.perf_sample.specs.declared.faults.Place.TheVariants as place
 use Rattle.perf_sample.specs.declared.faults.SampleFault.{SampleFault}
 use Rattle.perf_sample.specs.declared.faults.SampleFault.TheVariants as fault
-use Rattle.perf_sample.specs.Layout.{has, LeftOut, Fits}
+use Rattle.perf_sample.specs.Layout.{has, Fits}
 use Rattle.perf_sample.specs.Spelling.{le, present, fields}
 use Rattle.perf_sample.specs.Breaks.{number_at, Field, At, rows, row_fields, wrong_in, first_of}
 use Rattle.perf_sample.specs.Reading.{cut_at, Stopped}

@@ -20,7 +20,7 @@ mod writing;
 
 pub use branches::Branches;
 pub use faults::{Place, SampleFault};
-pub use laws::no_proper_prefix;
+pub use laws::{no_proper_prefix, one_of_three};
 pub use layout::Layout;
 pub use perf_types::perf_type;
 pub use reader::SampleReader;
