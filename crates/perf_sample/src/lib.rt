@@ -28,4 +28,6 @@ pub use sample::{Branch, Sample};
 pub use writing::{Buffer, encode};
 
 #[cfg(test)]
+mod reader_tests;
+#[cfg(test)]
 mod tests;
