@@ -1,5 +1,5 @@
 #!/usr/bin/env bash
-# Steps a second, peak memory and host instructions a step of the built program, beside bench/plain.c.
+# Steps a second, host instructions a step, and peak memory of the built program, beside bench/plain.c.
 # usage: bench/steps.sh [STEPS]     (100000000 where none are given)
 set -eu
 cd "$(dirname "${BASH_SOURCE[0]}")/.."
@@ -8,6 +8,7 @@ import os, shutil, struct, subprocess, sys, tempfile, time
 
 steps = int(sys.argv[1])
 few = 200_000
+mem = 4096
 binary = "crates/ctrsim/out/ctrsim"
 folder = tempfile.mkdtemp()
 plain = os.path.join(folder, "plain")
@@ -16,16 +17,32 @@ if shutil.which("cc"):
 else:
     plain = None
 
+# auipc x5, 0; then again and again addi, add, sd, ld, xor, a call (slli and a return there), and a branch back
+MIXED = [0x00000297, 0x00130313, 0x006383B3, 0x0472B023, 0x0402B403, 0x006444B3, 0x00C000EF, 0xFE0314E3, 0xFE5FF06F,
+         0x00349513, 0x00008067]
+
+# the name, the image, the depth's code, mctrctl, and the number of irq lines
+OFF, ON, EMULATED = 0x0, 0x4, 0x84
 LOOPS = [
-    ("j .", [0x0000006F]),
-    ("a call and a return", [0x008000EF, 0xFFDFF06F, 0x00008067]),
-    ("1023 ADDI and a jump", [0x00128293] * 1023 + [0x804FF06F]),
+    ("j .", [0x0000006F], 0, ON, 0),
+    ("a call and a return", [0x008000EF, 0xFFDFF06F, 0x00008067], 0, ON, 0),
+    ("1023 ADDI and a jump", [0x00128293] * 1023 + [0x804FF06F], 0, ON, 0),
+] + [
+    ("mixed, depth %d, %s, %d irqs" % (16 << code, what, irqs), MIXED, code, control, irqs)
+    for code in (0, 4)
+    for what, control in (("controls off", OFF), ("recorded", ON), ("emulated", EMULATED))
+    for irqs in (0, 1024)
 ]
 
 
-def schedule(words, count):
-    image = b"".join(struct.pack("<I", w) for w in words)
-    head = "ctr-schedule 1\nharts 1\nlayout 803\ntask %d %d 0 4 0 0\nimages\n" % (len(image), len(image))
+def image_of(words):
+    return b"".join(struct.pack("<I", w) for w in words)
+
+
+def schedule(words, code, control, irqs, count):
+    image = image_of(words)
+    head = "ctr-schedule 1\nharts 1\nlayout 803\ntask %d %d %d %x 0 0\n" % (len(image), mem, code, control)
+    head += "".join("irq 0 %d 3\n" % (1000 * i) for i in range(irqs)) + "images\n"
     return head.encode() + image + b"run 0 0 %d\nsample 0\nend\n" % count
 
 
@@ -45,27 +62,31 @@ def instructions(command, text):
     raise SystemExit("callgrind gave no total")
 
 
+# the difference between two runs, so that what a run does once isn't counted
 def per_step(make, text_of):
     first, last = (instructions(make(n), text_of(n)) for n in (few, 2 * few))
     return (last - first) / few
 
 
-for name, words in LOOPS:
+for name, words, code, control, irqs in LOOPS:
     image = os.path.join(folder, "image")
-    open(image, "wb").write(b"".join(struct.pack("<I", w) for w in words))
-    ours = steps / timed([binary, "run"], schedule(words, steps)) / 1e6
-    line = "%-22s %7.1f million steps/s" % (name, ours)
+    open(image, "wb").write(image_of(words))
+    text_of = lambda n: schedule(words, code, control, irqs, n)
+    plainly = lambda n: [plain, image, str(n), str(16 << code), "%x" % control, str(irqs)]
+    ours = steps / timed([binary, "run"], text_of(steps)) / 1e6
+    line = "%-40s %7.1f million steps/s" % (name, ours)
     if plain:
-        base = steps / timed([plain, image, str(steps)], None) / 1e6
+        base = steps / timed(plainly(steps), None) / 1e6
         line += ", plain C %7.1f, ratio %.2f" % (base, ours / base)
     print(line)
     if shutil.which("valgrind"):
-        ours = per_step(lambda n: [binary, "run"], lambda n: schedule(words, n))
-        line = "%-22s %7.1f host instructions/step" % ("", ours)
+        ours = per_step(lambda n: [binary, "run"], text_of)
+        line = "%-40s %7.1f host instructions/step" % ("", ours)
         if plain:
-            base = per_step(lambda n: [plain, image, str(n)], lambda n: None)
+            base = per_step(plainly, lambda n: None)
             line += ", plain C %7.1f, ratio %.2f" % (base, ours / base)
         print(line)
+
 
 def peak(command, text):
     """The greatest resident size in MB, as the kernel kept it for the program's own address space."""
@@ -84,6 +105,8 @@ def peak(command, text):
     return most / 1024
 
 
-print("peak memory %.1f MB" % peak([binary, "run"], schedule(LOOPS[0][1], steps)))
+print("peak memory %.1f MB" % peak([binary, "run"], schedule(MIXED, 4, ON, 1024, steps)))
+mem = 1048576
+print("peak memory %.1f MB with 1 MiB of memory" % peak([binary, "run"], schedule(MIXED, 4, ON, 1024, steps)))
 shutil.rmtree(folder)
 PYTHON

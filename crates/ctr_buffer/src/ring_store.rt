@@ -31,9 +31,10 @@ fn stepped(size: u16, wrptr: u8) -> u8
     if next < size { next as u8 } else { 0 }
 }
 
-/// The fast store: a ring in an array of 256 physical entries. Entry `i` is physical entry `(WRPTR - 1 - i)` modulo the
-/// depth, and physical entries from the depth up are zero. A push, a pop, a swap or a write of a slot changes one physical
-/// entry, and a write of WRPTR none.
+/// The fast store: a ring in an array of 256 physical entries (RISC-V Control Transfer Records 1.0, "Entry Registers").
+/// Slot `i` is physical entry `(WRPTR - 1 - i)` modulo the depth, so the youngest lies just before WRPTR and the oldest at
+/// it. Physical entries from the depth up are zero. A push, a pop, a swap and a write of a slot change one physical entry,
+/// and a write of WRPTR none; only `fresh`, `clear` and another depth write them all.
 #[derive(Drop)]
 pub struct RingStore {
     ring: [Slot; 256],

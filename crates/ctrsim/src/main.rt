@@ -3,6 +3,7 @@
 
 use ctr_port::{StdSink, StdSource, write_whole};
 use ctrsim_cli::ctrsim;
+use rv_hart::Harts;
 use std::alloc::AllocError;
 use std::env;
 use std::io::{BufReader, ErrorKind};
@@ -51,9 +52,19 @@ fn main(rt: HostRuntime) -> ExitCode {
     let Ok(reader) = BufReader::new(rt.alloc(), rt.stdin()) else {
         return stop(&rt, b"ctrsim: no memory\n", 7);
     };
+    let Ok(mut harts) = Harts::new(rt.alloc()) else {
+        return stop(&rt, b"ctrsim: no memory\n", 7);
+    };
     let mut source = StdSource::new(reader);
     let mut sink = StdSink::new(rt.stdout());
     let mut notes = StdSink::new(rt.stderr());
-    let outcome = ctrsim(rt.alloc(), &words, &mut source, &mut sink, &mut notes);
+    let outcome = ctrsim(
+        rt.alloc(),
+        &words,
+        &mut source,
+        &mut sink,
+        &mut notes,
+        &mut harts,
+    );
     ExitCode::from(outcome.status)
 }

@@ -47,3 +47,9 @@ same_front at text other a b x y same e f = first_is a b x y (sym e ∙ ap (cut 
 -- two names of one text are cut alike
 pub cut_alike : (at : ℕ) (text other x y : List ℕ) → text ≡ other → cut at other ≡ pair x y → cut at text ≡ pair x y
 cut_alike at text other x y same e = ap (cut at) same ∙ e
+
+rest_is : (a b x y : List ℕ) → pair a b ≡ pair x y → b ≡ y
+rest_is a b x y e = ap (λ (o : Option (List ℕ × List ℕ)). (unwrap_or o ([], [])).1) e
+
+pub same_rest : (at : ℕ) (text other a b x y : List ℕ) → text ≡ other → cut at text ≡ pair a b → cut at other ≡ pair x y → b ≡ y
+same_rest at text other a b x y same e f = rest_is a b x y (sym e ∙ ap (cut at) same ∙ f)

@@ -1,10 +1,10 @@
-mod BranchLists
 mod Complete
 mod Cuts
-mod Decimals
 mod Digits
 mod Heard
+mod IrqLaws
+mod IrqParts
 mod Options
-mod Pushes
 mod Runs
+mod SameForms
 mod Worked

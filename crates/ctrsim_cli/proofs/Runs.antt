@@ -1,61 +1,23 @@
--- The machine's run and the lone run with its history.
-use Rattle.std.proofs.Common.{◌≡◌, ℕ, zero, suc, List, false, None, Some, fold, refl, sym, ap, ◌∙◌, subst}
-use Rattle.std.proofs.lemmas.List.Sums.{fold-append}
-use Rattle.std.specs.declared.option.Option.{Option}
-use Rattle.rv_decode.specs.declared.instruction.Instr.{Instr}
-use Rattle.ctrsim_cli.specs.State.{State, Entry, fresh, no_entries}
-use Rattle.ctrsim_cli.specs.Event.{after, stack_of}
-use Rattle.ctrsim_cli.specs.Step.{built, next, next_by, events_of, events_by, fetched}
-use Rattle.perf_sample.specs.Spelling.{spelling}
-use Rattle.ctrsim_cli.specs.Lone.{lone, advanced, AllBuilt, BuiltFrom, StopsAt}
-use Rattle.ctrsim_cli.specs.SmallForm.{Schedule}
-use Rattle.ctrsim_cli.specs.Ended.{StopsAtStep}
-use Rattle.ctrsim_cli.specs.Sample.{sample_at, sample_of}
+-- A task on a hart and its lone run.
+use Rattle.std.proofs.Common.{◌≡◌, ℕ, suc, ◌+◌, List, [], ◌∷◌, refl, ap, ◌∙◌, subst, arith, Bool, false, cond, nat_lt}
+use Rattle.std.proofs.Math.Numerals.{suc-eq-add-one}
+use Rattle.rv_hart.specs.Task.{Irq, Task, causes}
+use Rattle.rv_hart.specs.Step.{Live, next}
+use Rattle.rv_hart.specs.Lone.{advanced}
+use Rattle.ctrsim_cli.specs.Irqs.{place_of}
 
--- the state of the lone run is that of the machine after as many steps
-pub lone_state : (image : List ℕ) (mem n : ℕ) → (lone image mem n).state ≡ advanced n (fresh image mem)
-lone_state image mem zero = refl
-lone_state image mem (suc n) = ap next (lone_state image mem n)
+-- no interrupt comes before step 0
+pub none_first : (irqs : List Irq) → place_of irqs 0 ≡ 0
+none_first [] = refl
+none_first (x ∷ xs) =
+    let later : nat_lt x.step 0 ≡ false = grind arith in
+    ap (λ (b : Bool). cond b (suc (place_of xs 0)) (place_of xs 0)) later ∙ none_first xs
 
--- a step's records are those that its events leave
-next_stack_by : (o : Option Instr) (s : State) → (next_by o s).stack ≡ fold after s.stack (events_by o s.core)
-next_stack_by None s = refl
-next_stack_by (Some i) s = refl
-
--- the records of the lone run are those that its history leaves
-pub lone_stack : (image : List ℕ) (mem n : ℕ) → (lone image mem n).state.stack ≡ stack_of (lone image mem n).history
-lone_stack image mem zero = refl
-lone_stack image mem (suc n) =
-    let told = lone image mem n in
-    next_stack_by (fetched told.state) told.state
-    ∙ ap (λ (k : List Entry). fold after k (events_of told.state)) (lone_stack image mem n)
-    ∙ sym (fold-append after no_entries told.history (events_of told.state))
-
-pub all_built : (image : List ℕ) (mem n : ℕ) → BuiltFrom (fresh image mem) n → AllBuilt image mem n
-all_built image mem n h k within = ap built (lone_state image mem k) ∙ h k within
-
-pub not_built : (image : List ℕ) (mem n : ℕ) → built (advanced n (fresh image mem)) ≡ false → built (lone image mem n).state ≡ false
-not_built image mem n h = ap built (lone_state image mem n) ∙ h
-
--- the sample that the machine gives is that of the lone run
-pub sample_is : (image : List ℕ) (mem n : ℕ) (s : State) → s ≡ advanced n (fresh image mem) → sample_at s.core.pc s.stack ≡ sample_of (lone image mem n)
-sample_is image mem n s e =
-    let same : s ≡ (lone image mem n).state = e ∙ sym (lone_state image mem n) in
-    ap (λ (t : State). sample_at t.core.pc t.stack) same ∙ ap (sample_at (lone image mem n).state.core.pc) (lone_stack image mem n)
-
--- the bytes that the machine's sample gives are the output of its schedule
-pub output_is : (image : List ℕ) (mem n : ℕ) (first last : State) → first ≡ fresh image mem → last ≡ advanced n first
-    → spelling 0x803 (sample_at last.core.pc last.stack) ≡ spelling 0x803 (sample_of (lone image mem n))
-output_is image mem n first last e ran =
-    ap (spelling 0x803) (sample_is image mem n last (ran ∙ ap (λ (s : State). advanced n s) e))
-
--- what is known of the machine's first steps is known of the lone run's
-pub steps_built : (image : List ℕ) (mem n : ℕ) (first : State) → first ≡ fresh image mem → BuiltFrom first n → AllBuilt image mem n
-steps_built image mem n first e h = all_built image mem n (subst (λ (s : State). BuiltFrom s n) e h)
-
-pub stops : (s : Schedule) (n : ℕ) (first : State) → first ≡ fresh s.image s.mem → StopsAt first s.steps n → StopsAtStep s n
-stops s n first e stop = record {
-  within = stop.within;
-  before = steps_built s.image s.mem n first e stop.built_before;
-  stop = not_built s.image s.mem n (ap (λ (t : State). built (advanced n t)) (sym e) ∙ stop.not_built);
-}
+-- a step after so many others
+pub step_more : (t : Task) (n pending : ℕ) (first before after : Live) → pending ≡ causes t.irqs n → before ≡ advanced t 0 n first → after ≡ next pending before
+    → after ≡ advanced t 0 (n + 1) first
+step_more t n pending first before after bits ran made =
+    let number : n ≡ 0 + n = omega arith in
+    let last : after ≡ advanced t 0 (suc n) first
+    = made ∙ ap (λ (p : ℕ). next p before) (bits ∙ ap (causes t.irqs) number) ∙ ap (next (causes t.irqs (0 + n))) ran in
+    subst (λ (m : ℕ). after ≡ advanced t 0 m first) (suc-eq-add-one n) last

@@ -1,8 +1,7 @@
 -- What the answers of the top call are called: their statuses, and what is said of a fault.
 use Rattle.std.specs.Prelude.{ℕ, List, [], ◌∷◌, ◌++◌, Option, None, Some, codes}
-use Rattle.std.specs.Fmt.{decimal}
 use Rattle.ctrsim_cli.specs.declared.fault.Fault.{Fault}
-use Rattle.ctrsim_cli.specs.declared.fault.Fault.TheVariants.{Usage, ReadFault, WriteFault, Memory, NotBuilt, OtherForm}
+use Rattle.ctrsim_cli.specs.declared.fault.Fault.TheVariants.{Usage, ReadFault, WriteFault, Memory, OtherForm}
 
 abbrev pub status_of : Option Fault → ℕ
 status_of None = 0
@@ -10,7 +9,6 @@ status_of (Some Usage) = 2
 status_of (Some ReadFault) = 3
 status_of (Some WriteFault) = 4
 status_of (Some Memory) = 7
-status_of (Some (NotBuilt n)) = 8
 status_of (Some OtherForm) = 9
 
 abbrev pub text_of : Fault → List ℕ
@@ -18,7 +16,6 @@ text_of Usage = codes "usage: ctrsim run | show HEX | demo N"
 text_of ReadFault = codes "cannot read"
 text_of WriteFault = codes "cannot write"
 text_of Memory = codes "no memory"
-text_of (NotBuilt n) = codes "step " ++ (decimal n ++ codes " isn't built")
 text_of OtherForm = codes "other form"
 
 -- one line, with the program's name before it

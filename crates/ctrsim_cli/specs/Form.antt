@@ -3,4 +3,7 @@ use Rattle.ctrsim_cli.specs.declared.small_form.Form.{Form}
 use Rattle.ctrsim_cli.specs.SmallForm.{Schedule}
 
 abbrev pub schedule_of : Form → Schedule
-schedule_of f = record { image = f.image.now; mem = f.mem; steps = f.steps }
+schedule_of f = record {
+  task = record { image = f.image.now; mem = f.mem; depth = f.depth; mctrctl = f.mctrctl; vsctrctl = f.vsctrctl; irqs = f.irqs };
+  steps = f.steps;
+}

@@ -1,15 +1,11 @@
 pub mod Lines
 pub mod Numbers
+pub mod Irqs
 pub mod SmallForm
-pub mod State
-pub mod Effect
-pub mod Event
-pub mod Step
-pub mod Lone
 pub mod Sample
 pub mod Fault
 pub mod Form
+pub mod Left
 pub mod Ended
 pub mod Performed
 pub mod Worked
-pub mod Ring

@@ -1,27 +1,35 @@
--- The sample of a lone run, in the layout with ip, pid and tid, and the branch stack.
-use Rattle.std.specs.Prelude.{ℕ, ◌*◌, ◌-◌, ◌%◌, ◌^◌, List, map, filter, nat_eq}
+-- The sample of a lone run, in the layout with ip, pid and tid, and the branch stack (`perf_event.h`).
+use Rattle.std.specs.Prelude.{ℕ, ◌*◌, ◌-◌, ◌%◌, ◌^◌, List, map}
+use Rattle.ctr_csrs.specs.declared.mode.Mode.{Mode}
+use Rattle.ctr_csrs.specs.declared.mode.Mode.TheVariants as modes
+use Rattle.ctr_buffer.specs.Entry.{Entry}
+use Rattle.ctr_buffer.specs.Live.{live}
+use Rattle.ctr_buffer.specs.History.{stack_of}
 use Rattle.perf_sample.specs.declared.sample.Branch.{Branch}
 use Rattle.perf_sample.specs.declared.sample.Sample.{Sample}
 use Rattle.perf_sample.specs.PerfType.{perf_type_of}
-use Rattle.ctrsim_cli.specs.State.{Entry}
-use Rattle.ctrsim_cli.specs.Event.{stack_of}
-use Rattle.ctrsim_cli.specs.Lone.{Told}
+use Rattle.rv_hart.specs.Lone.{Told}
 
--- the records that hold a transfer: those with the valid bit V
-abbrev pub live : List Entry → List Entry
-live stack = filter (λ s. nat_eq (s.source % 2) 1) stack
+-- hypervisor, kernel, user, guest kernel and guest user
+abbrev pub misc_of : Mode → ℕ
+misc_of modes.M = 3
+misc_of modes.S = 1
+misc_of modes.U = 2
+misc_of modes.Vs = 4
+misc_of modes.Vu = 5
 
--- a record as a branch: the source without the valid bit, the target, and the type in bits 20 to 23 of the flags
+-- an entry as a branch: the source without the valid bit V, the target, and the type in bits 20 to 23 of the flags
 abbrev pub branch_of : Entry → Branch
 branch_of s = record { from = s.source - s.source % 2; to = s.target; flags = 2 ^ 20 * perf_type_of s.kind }
 
+-- those of the entries that hold a transfer
 abbrev pub branches_of : List Entry → List Branch
-branches_of stack = map branch_of (live stack)
+branches_of entries = map branch_of (live entries)
 
--- mode M is the hypervisor's; the task is number 0, and pid and tid are its number plus 1; what the layout leaves out is 0
-abbrev pub sample_at : ℕ → List Entry → Sample
-sample_at pc stack = record {
-  misc = 3;
+-- the task is number 0, and pid and tid are its number plus 1; what the layout leaves out is 0
+abbrev pub sample_at : Mode → ℕ → List Entry → Sample
+sample_at mode pc entries = record {
+  misc = misc_of mode;
   identifier = 0;
   ip = pc;
   pid = 1;
@@ -32,8 +40,9 @@ sample_at pc stack = record {
   stream_id = 0;
   cpu = 0;
   period = 0;
-  branches = branches_of stack;
+  branches = branches_of entries;
 }
 
+-- the mode and the program counter of a state, and the entries that its history leaves, the youngest first
 abbrev pub sample_of : Told → Sample
-sample_of t = sample_at t.state.core.pc (stack_of t.history)
+sample_of t = sample_at t.live.core.mode t.live.core.pc (stack_of t.history).slots

@@ -1,6 +1,12 @@
 -- Lone runs worked out by hand.
 use Rattle.std.specs.Prelude.{ℕ, List, [], ◌∷◌}
+use Rattle.ctr_csrs.specs.declared.depth.Depth.TheVariants.{D16}
 use Rattle.perf_sample.specs.declared.sample.Sample.{Sample}
+use Rattle.rv_hart.specs.Task.{Task}
+
+-- an image in so many bytes of memory, with the control M alone set
+abbrev pub task_of : List ℕ → ℕ → Task
+task_of image mem = record { image = image; mem = mem; depth = D16; mctrctl = 4; vsctrctl = 0; irqs = [] }
 
 -- 008000EF, jal x1, 8
 abbrev pub call_image : List ℕ

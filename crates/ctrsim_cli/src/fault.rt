@@ -11,14 +11,12 @@ pub enum Fault {
     WriteFault,
     /// No memory was found.
     Memory,
-    /// The step with this number, counted from 0, isn't built.
-    NotBuilt(u64),
     /// The input isn't a schedule of the small form.
     OtherForm,
 }
 
 /// The exit status, and the fault that it stands for: 0 for none, 2 Usage, 3 ReadFault, 4 WriteFault, 7 Memory,
-/// 8 NotBuilt, 9 OtherForm.
+/// 9 OtherForm.
 #[derive(Clone, Copy, Debug, PartialEq, Eq)]
 pub struct Outcome {
     pub status: u8,

@@ -1,61 +1,68 @@
-// The sample of a machine.
-ghost use Rattle.std.specs.Prelude.{◌≡◌, ◌<◌, ◌≤◌, ◌+◌, [], ◌∷◌, ◌++◌, length, OnOk, OnErr};
+// The sample of a hart.
+ghost use Rattle.std.specs.Prelude.{◌≡◌, ◌<◌, ◌≤◌, ◌+◌, ◌*◌, ◌^◌, map, OnOk, OnErr};
+ghost use Rattle.ctr_csrs.specs.Depths.{entries_of};
 ghost use Rattle.perf_sample.specs.Layout.{Fits, FlagsFit};
 ghost use Rattle.perf_sample.specs.Spelling.{spelling};
 ghost use Rattle.ctr_port.specs.Counts.{Rose};
 ghost use Rattle.ctr_port.specs.Appended.{GainsPart};
-ghost use Rattle.ctrsim_cli.specs.Sample.{branches_of, sample_at};
+ghost use Rattle.ctrsim_cli.specs.Sample.{misc_of, branch_of, sample_at};
 
-use crate::machine::Machine;
-use crate::records::Slot;
+use ctr_buffer::Slot;
+use ctr_csrs::Mode;
 use ctr_port::{Sink, WriteFault, write_whole};
-use perf_sample::{Branches, Buffer, Layout, Sample, encode};
+use perf_sample::{Branch, Branches, Buffer, Layout, Sample, encode, perf_type};
+use rv_hart::{Hart, Store};
+use task_switch::{Slots, read_stack};
 
-// Adds the branch of a record, where it holds a transfer.
-fn keep(branches: &mut Branches, slot: Slot)
-    requires { length branches.old < 256 }
-    ensures items { branches.new ≡ branches.old ++ branches_of (slot ∷ []) }
-    ensures len { length branches.new ≤ length branches.old + 1 }
-    ensures flags { FlagsFit branches.old → FlagsFit branches.new }
+// The perf mode of a sample.
+fn misc(mode: Mode) -> u16
+    ensures { result ≡ misc_of mode }
 {
-    if let Some(branch) = slot.branch() {
-        branches.push(branch);
+    match mode {
+        Mode::M => 3,
+        Mode::S => 1,
+        Mode::U => 2,
+        Mode::Vs => 4,
+        Mode::Vu => 5,
     }
 }
 
-// Adds the branches of the records that hold a transfer, in order.
-fn keep_all(branches: &mut Branches, slots: &[Slot])
-    requires { length branches.old + length slots.now ≤ 256 }
-    ensures items { branches.new ≡ branches.old ++ branches_of slots.now }
-    ensures len { length branches.new ≤ length branches.old + length slots.now }
-    ensures flags { FlagsFit branches.old → FlagsFit branches.new }
+// An entry as a branch.
+fn branch(slot: Slot) -> Branch
+    ensures value { result ≡ branch_of slot }
+    ensures flags { result.flags < 2 ^ 33 }
 {
-    for slot in slots {
-        keep(branches, *slot);
+    Branch {
+        from: slot.source - slot.source % 2,
+        to: slot.target,
+        flags: (1 << 20) * perf_type(slot.kind),
     }
 }
 
-// The branches of a machine's records that hold a transfer, youngest first.
-fn branches(machine: &Machine) -> Branches
-    ensures items { result ≡ branches_of machine.now.stack }
+// Entries as branches, in the same order.
+fn branches(slots: &Slots) -> Branches
+    ensures items { result ≡ map branch_of slots.now }
     ensures flags { FlagsFit result }
 {
-    let (younger, older) = machine.pieces();
     let mut branches = Branches::new();
-    keep_all(&mut branches, younger);
-    keep_all(&mut branches, older);
+    for slot in slots.items() {
+        branches.push(branch(*slot));
+    }
     branches
 }
 
-/// The sample of a machine, in the layout with ip, pid and tid, and the branch stack.
-pub fn sample(machine: &Machine) -> Sample
-    ensures value { result ≡ sample_at machine.now.core.pc machine.now.stack }
+/// The sample of a hart, in the layout with ip, pid and tid, and the branch stack, which is read through its registers.
+pub fn sample(hart: &mut Hart<Store>) -> Sample
+    requires { hart.old.accesses ≤ 2 ^ 62 }
+    ensures value { result ≡ sample_at hart.old.core.mode hart.old.core.pc hart.old.unit.stack.slots }
     ensures fits { Fits 0x803 result }
+    ensures hart { hart.new ≡ record hart.old { accesses = hart.old.accesses + (3 + 4 * entries_of hart.old.unit.stack.depth) } }
 {
+    let slots = read_stack(hart);
     Sample {
-        misc: 3,
+        misc: misc(hart.core().mode),
         identifier: 0,
-        ip: machine.pc(),
+        ip: hart.core().pc,
         pid: 1,
         tid: 1,
         time: 0,
@@ -64,23 +71,23 @@ pub fn sample(machine: &Machine) -> Sample
         stream_id: 0,
         cpu: 0,
         period: 0,
-        branches: branches(machine),
+        branches: branches(&slots),
     }
 }
 
-/// Writes the sample of a machine.
-pub fn write_sample<K: Sink>(machine: &Machine, sink: &mut K) -> Result<(), WriteFault>
-    ensures whole { OnOk result (K.gained sink.old (spelling 0x803 (sample_at machine.now.core.pc machine.now.stack)) sink.new) }
-    ensures part { OnErr result (GainsPart K.gained sink.old sink.new (spelling 0x803 (sample_at machine.now.core.pc machine.now.stack))) }
+/// Writes a sample.
+pub fn write_sample<K: Sink>(sample: &Sample, sink: &mut K) -> Result<(), WriteFault>
+    requires { Fits 0x803 sample.now }
+    ensures whole { OnOk result (K.gained sink.old (spelling 0x803 sample.now) sink.new) }
+    ensures part { OnErr result (GainsPart K.gained sink.old sink.new (spelling 0x803 sample.now)) }
     ensures later { K.faults sink.old ≤ K.faults sink.new }
     ensures cause { OnErr result (Rose (K.faults sink.old) (K.faults sink.new)) }
 {
     let Some(layout) = Layout::of(0x803) else {
         unreachable!()
     };
-    let sample = sample(machine);
     let mut out = Buffer::new();
-    encode(layout, &sample, &mut out);
+    encode(layout, sample, &mut out);
     match write_whole(sink, out.as_slice()) {
         Ok(()) => Ok(()),
         Err(fault) => Err(fault),

@@ -1,16 +1,17 @@
 // The top call.
 ghost use Rattle.std.specs.Prelude.{◌≡◌, ◌↔◌, ◌⊎◌, ℕ, Some, None, [], List};
 ghost use Rattle.ctr_port.specs.Counts.{Rose};
+ghost use Rattle.rv_hart.specs.State.{fresh_harts};
 ghost use Rattle.ctrsim_cli.specs.Fault.{status_of, said_if};
-ghost use Rattle.ctrsim_cli.specs.Lone.{AllBuilt};
 ghost use Rattle.ctrsim_cli.specs.SmallForm.{Schedule, IsSmallForm};
-ghost use Rattle.ctrsim_cli.specs.Ended.{Done, CutShort, Stopped, StopsAtStep, Refused, IsRun};
+ghost use Rattle.ctrsim_cli.specs.Ended.{Done, CutShort, Nothing, Refused, IsRun};
 ghost use Rattle.ctrsim_cli.specs.Performed.{SaidPart};
 
 use crate::command::command;
 use crate::fault::{Fault, Outcome};
 use crate::notes::line_of;
 use ctr_port::{Sink, Source, write_whole};
+use rv_hart::Harts;
 use std::alloc::Global;
 
 // The exit status of a fault, or of none.
@@ -23,7 +24,6 @@ fn status(fault: Option<Fault>) -> u8
         Some(Fault::ReadFault) => 3,
         Some(Fault::WriteFault) => 4,
         Some(Fault::Memory) => 7,
-        Some(Fault::NotBuilt(_)) => 8,
         Some(Fault::OtherForm) => 9,
     }
 }
@@ -35,54 +35,53 @@ fn say<N: Sink>(fault: Option<Fault>, notes: &mut N)
     match fault {
         Some(fault) => {
             let line = line_of(fault);
-            let _ = write_whole(notes, line.as_slice());
+            let _ = write_whole(notes, line);
         }
         None => {}
     }
 }
 
-/// Does what the words ask for: `run` reads a schedule of the small form from `source`, runs its task alone on a
-/// machine of its own, and writes the sample of its last step to `sink`.
+/// Does what the words ask for: `run` reads a schedule of the small form from `source`, runs its task on hart 0, and writes
+/// the sample after its last step to `sink`.
 ///
 /// `words` are the arguments after the program's name. What is said of a fault goes to `notes`; a failure of `notes`
-/// changes neither the status nor the output. Nothing is written before all input was read and all steps were made.
+/// changes neither the status nor the output. Nothing is written before all input was read and all steps were made, and no
+/// hart does anything before the memory of the task was found.
 pub fn ctrsim<S: Source, K: Sink, N: Sink>(
     alloc: Global,
     words: &[String],
     source: &mut S,
     sink: &mut K,
     notes: &mut N,
+    harts: &mut Harts,
 ) -> Outcome
+    requires { harts.old ≡ fresh_harts }
     ensures status { result.status ≡ status_of result.fault }
 
-    // The headline: all input is one schedule, all its steps were made, and the one sample that was written is that
-    // of its task's lone run.
-    ensures done { result.fault ≡ None → Done (S.left source.old) (S.left source.new) K.gained sink.old sink.new }
+    // The headline: all input is one schedule, all its steps were made on hart 0, and the one sample that was written is
+    // that of its task's lone run.
+    ensures done { result.fault ≡ None → Done (S.left source.old) (S.left source.new) K.gained sink.old sink.new harts.new }
 
     // Other words come exactly to this, and touch nothing.
     ensures usage { (result.fault ≡ Some Fault.Usage) ↔ (IsRun words.now → ⊥) }
-    ensures untouched { (IsRun words.now → ⊥) → (source.new ≡ source.old) × (sink.new ≡ sink.old) }
+    ensures untouched { (IsRun words.now → ⊥) → (source.new ≡ source.old) × (sink.new ≡ sink.old) × (harts.new ≡ harts.old) }
 
     // A failure has a cause: a count of faults that rose in this call.
     ensures read_cause { result.fault ≡ Some Fault.ReadFault → Rose (S.faults source.old) (S.faults source.new) }
-    ensures read_fault { result.fault ≡ Some Fault.ReadFault → K.gained sink.old [] sink.new }
+    ensures read_fault { result.fault ≡ Some Fault.ReadFault → Nothing K.gained sink.old sink.new harts.new }
     ensures write_cause { result.fault ≡ Some Fault.WriteFault → Rose (K.faults sink.old) (K.faults sink.new) }
-    ensures write_fault { result.fault ≡ Some Fault.WriteFault → CutShort (S.left source.old) (S.left source.new) K.gained sink.old sink.new }
+    ensures write_fault { result.fault ≡ Some Fault.WriteFault → CutShort (S.left source.old) (S.left source.new) K.gained sink.old sink.new harts.new }
 
-    // Want of memory is free, and nothing was written.
-    ensures memory { result.fault ≡ Some Fault.Memory → K.gained sink.old [] sink.new }
+    // Want of memory is free, and nothing was done.
+    ensures memory { result.fault ≡ Some Fault.Memory → Nothing K.gained sink.old sink.new harts.new }
 
-    // What isn't built, and what isn't of the form.
-    ensures not_built { (n : ℕ) → result.fault ≡ Some (Fault.NotBuilt n) → Stopped (S.left source.old) (S.left source.new) K.gained sink.old sink.new n }
-    ensures other_form { result.fault ≡ Some Fault.OtherForm → Refused (S.left source.old) K.gained sink.old sink.new }
+    // What isn't of the form.
+    ensures other_form { result.fault ≡ Some Fault.OtherForm → Refused (S.left source.old) K.gained sink.old sink.new harts.new }
 
     // Each comes wherever its cause is there, but for want of memory and for counts that rose.
-    ensures all_done { IsRun words.now → (text : List ℕ) (s : Schedule) → S.left source.old ≡ Some text → IsSmallForm text s → AllBuilt s.image s.mem s.steps
+    ensures all_done { IsRun words.now → (text : List ℕ) (s : Schedule) → S.left source.old ≡ Some text → IsSmallForm text s
         → (Rose (S.faults source.old) (S.faults source.new) → ⊥) → (Rose (K.faults sink.old) (K.faults sink.new) → ⊥)
         → (result.status ≡ 0) ⊎ (result.status ≡ 7) }
-    ensures all_not_built { IsRun words.now → (text : List ℕ) (s : Schedule) (n : ℕ) → S.left source.old ≡ Some text → IsSmallForm text s → StopsAtStep s n
-        → (Rose (S.faults source.old) (S.faults source.new) → ⊥)
-        → (result.fault ≡ Some (Fault.NotBuilt n)) ⊎ (result.fault ≡ Some Fault.Memory) }
     ensures all_other_form { IsRun words.now → (text : List ℕ) → S.left source.old ≡ Some text → ((s : Schedule) → IsSmallForm text s → ⊥)
         → (Rose (S.faults source.old) (S.faults source.new) → ⊥)
         → (result.fault ≡ Some Fault.OtherForm) ⊎ (result.fault ≡ Some Fault.Memory) }
@@ -90,7 +89,7 @@ pub fn ctrsim<S: Source, K: Sink, N: Sink>(
     // The text of the fault, or of it what the notes took; nothing where there is none.
     ensures notes { SaidPart N.gained notes.old notes.new (said_if result.fault) (N.faults notes.old) (N.faults notes.new) }
 {
-    let fault = command(alloc, words, source, sink);
+    let fault = command(alloc, words, source, sink, harts);
     say(fault, notes);
     Outcome {
         status: status(fault),

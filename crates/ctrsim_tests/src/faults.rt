@@ -2,6 +2,7 @@
 use crate::input::{Ended, call, run, schedule};
 use ctr_port::{MemSink, MemSource, NoMemory};
 use ctrsim_cli::{Fault, Outcome};
+use std::alloc::{AllocError, Global};
 use std::process::Abort;
 
 const CALL: &[u8] = b"\xEF\x00\x80\x00";
@@ -18,83 +19,31 @@ const OTHER_WORDS: [&[&str]; 6] = [
     &["--help"],
 ];
 
-// A schedule with a step that isn't built.
-#[derive(Clone, Copy)]
-struct Stop {
-    name: &'static str,
-    // the words IMAGE and MEM
-    sizes: &'static [u8],
-    image: &'static [u8],
-    steps: &'static [u8],
-    number: u64,
-    said: &'static [u8],
-}
-
-const STOPS: [Stop; 6] = [
-    Stop {
-        name: "ECALL",
-        sizes: b"4 4",
-        image: b"\x73\x00\x00\x00",
-        steps: b"1",
-        number: 0,
-        said: b"ctrsim: step 0 isn't built\n",
-    },
-    Stop {
-        name: "no instruction",
-        sizes: b"4 4",
-        image: b"\xFF\xFF\xFF\xFF",
-        steps: b"1",
-        number: 0,
-        said: b"ctrsim: step 0 isn't built\n",
-    },
-    // addi x5, x5, 1, and then the end of memory
-    Stop {
-        name: "past memory",
-        sizes: b"4 4",
-        image: b"\x93\x82\x12\x00",
-        steps: b"11",
-        number: 1,
-        said: b"ctrsim: step 1 isn't built\n",
-    },
-    // jal x0, 2
-    Stop {
-        name: "a target between words",
-        sizes: b"4 4",
-        image: b"\x6F\x00\x20\x00",
-        steps: b"1",
-        number: 0,
-        said: b"ctrsim: step 0 isn't built\n",
-    },
-    // jalr x0, 0(x0), which is built, and then address 0
-    Stop {
-        name: "below memory",
-        sizes: b"4 4",
-        image: b"\x67\x00\x00\x00",
-        steps: b"2",
-        number: 1,
-        said: b"ctrsim: step 1 isn't built\n",
-    },
-    // eleven ADDI, and then slli x0, x0, 1
-    Stop {
-        name: "a number of two digits",
-        sizes: b"48 48",
-        image: b"\x13\0\0\0\x13\0\0\0\x13\0\0\0\x13\0\0\0\x13\0\0\0\x13\0\0\0\x13\0\0\0\x13\0\0\0\x13\0\0\0\x13\0\0\0\x13\0\0\0\x13\x10\x10\0",
-        steps: b"100",
-        number: 11,
-        said: b"ctrsim: step 11 isn't built\n",
-    },
-];
-
-const OTHER_FORMS: [&[u8]; 14] = [
+const OTHER_FORMS: [&[u8]; 29] = [
     b"",
     b"ctr-schedule 1\nharts 2\nlayout 803\ntask 4 8 0 4 0 0\nimages\n\xEF\x00\x80\x00run 0 0 1\nsample 0\nend\n",
     b"ctr-schedule 1\nharts 1\nlayout 0803\ntask 4 8 0 4 0 0\nimages\n\xEF\x00\x80\x00run 0 0 1\nsample 0\nend\n",
     b"ctr-schedule 1\nharts 1\nlayout 803\ntask 4  8 0 4 0 0\nimages\n\xEF\x00\x80\x00run 0 0 1\nsample 0\nend\n", // two spaces
-    b"ctr-schedule 1\nharts 1\nlayout 803\ntask 12 8 0 4 0 0\nimages\n\xEF\x00\x80\x00run 0 0 1\nsample 0\nend\n", // image above memory
+    b"ctr-schedule 1\nharts 1\nlayout 803\ntask 12 8 0 4 0 0\nimages\n\xEF\x00\x80\x00run 0 0 1\nsample 0\nend\n", // the image is longer than the memory
     b"ctr-schedule 1\nharts 1\nlayout 803\ntask 4 6 0 4 0 0\nimages\n\xEF\x00\x80\x00run 0 0 1\nsample 0\nend\n", // no multiple of 4
-    b"ctr-schedule 1\nharts 1\nlayout 803\ntask 4 4100 0 4 0 0\nimages\n\xEF\x00\x80\x00run 0 0 1\nsample 0\nend\n",
+    b"ctr-schedule 1\nharts 1\nlayout 803\ntask 4 1048580 0 4 0 0\nimages\n\xEF\x00\x80\x00run 0 0 1\nsample 0\nend\n",
     b"ctr-schedule 1\nharts 1\nlayout 803\ntask 0 0 0 4 0 0\nimages\nrun 0 0 1\nsample 0\nend\n",
     b"ctr-schedule 1\nharts 1\nlayout 803\ntask 4 +8 0 4 0 0\nimages\n\xEF\x00\x80\x00run 0 0 1\nsample 0\nend\n", // a sign
+    b"ctr-schedule 1\nharts 1\nlayout 803\ntask 4 8 5 4 0 0\nimages\n\xEF\x00\x80\x00run 0 0 1\nsample 0\nend\n", // no depth
+    b"ctr-schedule 1\nharts 1\nlayout 803\ntask 4 8 00 4 0 0\nimages\n\xEF\x00\x80\x00run 0 0 1\nsample 0\nend\n", // two digits
+    b"ctr-schedule 1\nharts 1\nlayout 803\ntask 4 8 0 0000000000000004 00000000000000000 0\nimages\n\xEF\x00\x80\x00run 0 0 1\nsample 0\nend\n", // 17 digits
+    b"ctr-schedule 1\nharts 1\nlayout 803\ntask 4 8 0 0x4 0 0\nimages\n\xEF\x00\x80\x00run 0 0 1\nsample 0\nend\n",
+    b"ctr-schedule 1\nharts 1\nlayout 803\ntask 4 8 0 4 0 1\nimages\n\xEF\x00\x80\x00run 0 0 1\nsample 0\nend\n", // a period
+    b"ctr-schedule 1\nharts 1\nlayout 803\ntask 4 8 0 4 0\nimages\n\xEF\x00\x80\x00run 0 0 1\nsample 0\nend\n",
+    b"ctr-schedule 1\nharts 1\nlayout 803\nirq 0 1 3\ntask 4 8 0 4 0 0\nimages\n\xEF\x00\x80\x00run 0 0 1\nsample 0\nend\n", // an irq line before the task line
+    b"ctr-schedule 1\nharts 1\nlayout 803\ntask 4 8 0 4 0 0\nirq 1 1 3\nimages\n\xEF\x00\x80\x00run 0 0 1\nsample 0\nend\n", // another task
+    b"ctr-schedule 1\nharts 1\nlayout 803\ntask 4 8 0 4 0 0\nirq 0 1 4\nimages\n\xEF\x00\x80\x00run 0 0 1\nsample 0\nend\n", // no interrupt
+    b"ctr-schedule 1\nharts 1\nlayout 803\ntask 4 8 0 4 0 0\nirq 0 1 003\nimages\n\xEF\x00\x80\x00run 0 0 1\nsample 0\nend\n", // three digits
+    b"ctr-schedule 1\nharts 1\nlayout 803\ntask 4 8 0 4 0 0\nirq 0 1000000000000001 3\nimages\n\xEF\x00\x80\x00run 0 0 1\nsample 0\nend\n",
+    b"ctr-schedule 1\nharts 1\nlayout 803\ntask 4 8 0 4 0 0\nirq 0 00000000000000001 3\nimages\n\xEF\x00\x80\x00run 0 0 1\nsample 0\nend\n", // 17 digits
+    b"ctr-schedule 1\nharts 1\nlayout 803\ntask 4 8 0 4 0 0\nirq 0 2 3\nirq 0 1 5\nimages\n\xEF\x00\x80\x00run 0 0 1\nsample 0\nend\n", // a step below the one before
+    b"ctr-schedule 1\nharts 1\nlayout 803\ntask 4 8 0 4 0 0\nirq 0 1 3\nirq 0 1 3\nimages\n\xEF\x00\x80\x00run 0 0 1\nsample 0\nend\n", // the same pair twice
+    b"ctr-schedule 1\nharts 1\nlayout 803\ntask 4 8 0 4 0 0\nirq 0 1 5\nirq 0 1 3\nimages\n\xEF\x00\x80\x00run 0 0 1\nsample 0\nend\n", // a cause below the one before
     b"ctr-schedule 1\nharts 1\nlayout 803\ntask 4 8 0 4 0 0\nimages\n\xEF\x00\x80\x00run 0 0 1000000001\nsample 0\nend\n",
     b"ctr-schedule 1\nharts 1\nlayout 803\ntask 4 8 0 4 0 0\nimages\n\xEF\x00\x80\x00run 0 0 00000000001\nsample 0\nend\n", // 11 digits
     b"ctr-schedule 1\nharts 1\nlayout 803\ntask 4 8 0 4 0 0\nimages\n\xEF\x00\x80\x00run 0 0 1\nsample 0\nend", // no line feed
@@ -107,6 +56,7 @@ fn stops(rt: &impl Abort, name: &str, ended: &Ended, want: Outcome, said: &[u8],
     assert_eq!(rt; ended.outcome, want, "{name}");
     assert_eq!(rt; ended.notes.bytes(), said, "{name}");
     assert_eq!(rt; ended.sink.bytes().len(), written, "{name}");
+    assert_eq!(rt; ended.harts.is_fresh(), want != CANNOT_WRITE, "{name}");
 }
 
 #[test]
@@ -125,20 +75,6 @@ fn other_words_are_usage_and_touch_nothing(rt: HostRuntime) -> Result<(), NoMemo
             b"ctrsim: usage: ctrsim run | show HEX | demo N\n",
             0,
         );
-    }
-    Ok(())
-}
-
-#[test]
-fn a_step_that_is_not_built_is_named(rt: HostRuntime) -> Result<(), NoMemory> {
-    for case in STOPS {
-        let text = schedule(rt.alloc(), case.sizes, case.image, case.steps)?;
-        let ended = run(rt.alloc(), &["run"], text.as_slice(), &[])?;
-        let want = Outcome {
-            status: 8,
-            fault: Some(Fault::NotBuilt(case.number)),
-        };
-        stops(&rt, case.name, &ended, want, case.said, 0);
     }
     Ok(())
 }
@@ -166,21 +102,49 @@ fn text_of_another_form_is_refused(rt: HostRuntime) -> Result<(), NoMemory> {
 
 #[test]
 fn a_full_memory_fits_and_a_longer_input_is_refused(rt: HostRuntime) -> Result<(), NoMemory> {
-    let mut image = Vec::from_slice(rt.alloc(), CALL)?;
-    image.resize(4096, 0)?;
-    let mut text = schedule(rt.alloc(), b"4096 4096", image.as_slice(), b"1")?;
-    let ended = run(rt.alloc(), &["run"], text.as_slice(), &[1000])?;
+    let mut text = schedule(rt.alloc(), b"1048576 4 4 0 0", b"", CALL, b"1")?;
+    let ended = run(rt.alloc(), &["run"], text.as_slice(), &[100_000])?;
     assert_eq!(rt; ended.outcome.status, 0);
-    text.resize(9000, 0)?;
+    text.resize(1_200_001, 0)?;
     let ended = run(rt.alloc(), &["run"], text.as_slice(), &[])?;
     stops(
         &rt,
-        "9,000 bytes",
+        "1,200,001 bytes",
         &ended,
         OTHER_FORM,
         b"ctrsim: other form\n",
         0,
     );
+    Ok(())
+}
+
+// As many irq lines, of rising steps.
+fn lines(alloc: Global, count: u16) -> Result<Vec<u8>, AllocError> {
+    let mut text = Vec::new(alloc);
+    for i in 0..count {
+        let digits = [
+            b'0' + (i / 1000 % 10) as u8,
+            b'0' + (i / 100 % 10) as u8,
+            b'0' + (i / 10 % 10) as u8,
+            b'0' + (i % 10) as u8,
+        ];
+        text.extend_from_slice(b"irq 0 ")?;
+        text.extend_from_slice(&digits)?;
+        text.extend_from_slice(b" 13\n")?;
+    }
+    Ok(text)
+}
+
+#[test]
+fn there_are_1024_irq_lines_at_most(rt: HostRuntime) -> Result<(), NoMemory> {
+    let irqs = lines(rt.alloc(), 1024)?;
+    let text = schedule(rt.alloc(), b"8 0 4 0 0", irqs.as_slice(), CALL, b"1")?;
+    let ended = run(rt.alloc(), &["run"], text.as_slice(), &[])?;
+    assert_eq!(rt; ended.outcome.status, 0);
+    let irqs = lines(rt.alloc(), 1025)?;
+    let text = schedule(rt.alloc(), b"8 0 4 0 0", irqs.as_slice(), CALL, b"1")?;
+    let ended = run(rt.alloc(), &["run"], text.as_slice(), &[])?;
+    assert_eq!(rt; ended.outcome, OTHER_FORM);
     Ok(())
 }
 

@@ -3,6 +3,7 @@ ghost use Rattle.std.specs.Prelude.{◌<◌, All};
 
 use ctr_port::{MemSink, MemSource, NoMemory};
 use ctrsim_cli::{Outcome, ctrsim};
+use rv_hart::Harts;
 use std::alloc::{AllocError, Global};
 
 /// A call with all that it left.
@@ -11,20 +12,36 @@ pub struct Ended {
     pub outcome: Outcome,
     pub sink: MemSink,
     pub notes: MemSink,
+    pub harts: Harts,
 }
 
-/// A schedule of the small form: the words IMAGE and MEM, the image, and the word STEPS.
+// The digits of a length below 10,000.
+fn digits(n: usize) -> [u8; 4] {
+    [
+        b'0' + (n / 1000 % 10) as u8,
+        b'0' + (n / 100 % 10) as u8,
+        b'0' + (n / 10 % 10) as u8,
+        b'0' + (n % 10) as u8,
+    ]
+}
+
+/// A schedule of the small form: the words of the task line from MEM on, the irq lines, the image, and the word STEPS.
 pub fn schedule(
     alloc: Global,
-    sizes: &[u8],
+    task: &[u8],
+    irqs: &[u8],
     image: &[u8],
     steps: &[u8],
 ) -> Result<Vec<u8>, AllocError> {
     let mut text = Vec::new(alloc);
+    text.extend_from_slice(b"ctr-schedule 1\nharts 1\nlayout 803\ntask ")?;
+    text.extend_from_slice(&digits(image.len()))?;
     for part in [
-        b"ctr-schedule 1\nharts 1\nlayout 803\ntask ".as_slice(),
-        sizes,
-        b" 0 4 0 0\nimages\n",
+        b" ".as_slice(),
+        task,
+        b"\n",
+        irqs,
+        b"images\n",
         image,
         b"run 0 0 ",
         steps,
@@ -49,11 +66,13 @@ pub fn call(
     }
     let mut sink = sink;
     let mut notes = notes;
-    let outcome = ctrsim(alloc, &list, source, &mut sink, &mut notes);
+    let mut harts = Harts::new(alloc)?;
+    let outcome = ctrsim(alloc, &list, source, &mut sink, &mut notes, &mut harts);
     Ok(Ended {
         outcome,
         sink,
         notes,
+        harts,
     })
 }
 

@@ -1,0 +1,36 @@
+-- What a schedule leaves: the bytes of its sample, and the sixteen harts.
+use Rattle.std.specs.Prelude.{ℕ, ◌+◌, ◌*◌, List, ◌∷◌, replicate, Some}
+use Rattle.ctr_csrs.specs.Depths.{entries_of}
+use Rattle.perf_sample.specs.Spelling.{spelling}
+use Rattle.rv_hart.specs.Step.{Live}
+use Rattle.rv_hart.specs.Lone.{Told, lone}
+use Rattle.rv_hart.specs.State.{HartState, fresh_hart}
+use Rattle.ctrsim_cli.specs.SmallForm.{Schedule}
+use Rattle.ctrsim_cli.specs.Sample.{sample_of}
+
+-- the lone run of the task after all steps
+abbrev pub told_of : Schedule → Told
+told_of s = lone s.task s.steps
+
+-- the one sample
+abbrev pub output : Schedule → List ℕ
+output s = spelling 0x803 (sample_of (told_of s))
+
+-- how often a monitor reaches for a register: it writes the depth and the two controls, and at the end it reads the depth and
+-- the select, selects each entry and reads its three parts, and writes the select back
+abbrev pub accesses_of : Live → ℕ
+accesses_of s = 3 + (3 + 4 * entries_of s.unit.stack.depth)
+
+-- the hart that the task ran on
+abbrev pub ran_hart : Schedule → HartState
+ran_hart s = record {
+  core = (told_of s).live.core;
+  unit = (told_of s).live.unit;
+  steps = s.steps;
+  accesses = accesses_of (told_of s).live;
+  resident = Some 0;
+}
+
+-- it is hart 0, and the others did nothing
+abbrev pub ran_harts : Schedule → List HartState
+ran_harts s = ran_hart s ∷ replicate 15 fresh_hart

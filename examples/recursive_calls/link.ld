@@ -1,0 +1,18 @@
+/* The memory of the task: the image from 80000000, zeros after it, the stack at its end. */
+ENTRY(_start)
+
+MEMORY
+{
+    ram (rwx) : ORIGIN = 0x80000000, LENGTH = 8192   /* MEM of the task line */
+}
+
+SECTIONS
+{
+    .text : { *(.text.start) *(.text .text.*) } > ram
+    .rodata : { *(.rodata .rodata.*) *(.srodata .srodata.*) } > ram
+    .data : { *(.data .data.*) __global_pointer$ = . + 0x800; *(.sdata .sdata.*) } > ram
+    .bss (NOLOAD) : { *(.sbss .sbss.*) *(.bss .bss.*) *(COMMON) } > ram
+    __stack_top = ORIGIN(ram) + LENGTH(ram);
+    ASSERT(. + 1024 <= __stack_top, "no room for the stack")
+    /DISCARD/ : { *(.comment) *(.note .note.*) *(.eh_frame) *(.riscv.attributes) }
+}
