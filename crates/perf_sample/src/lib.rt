@@ -1,6 +1,7 @@
 //! Perf samples with branch stacks, as values and as bytes: the record PERF_RECORD_SAMPLE of Linux `perf_event.h`.
 //!
-//! A layout says which fields a sample has. `encode` writes a sample as the one spelling that its layout gives it.
+//! A layout says which fields a sample has. `encode` writes a sample as the one spelling that its layout gives it, and a
+//! `SampleReader` reads a stream of them, or answers the first field that is broken.
 #![tactic(auto)]
 
 mod branch;
