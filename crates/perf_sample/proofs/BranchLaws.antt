@@ -1,5 +1,5 @@
 -- One branch, field by field.
-use Rattle.std.proofs.Common.{◌≡◌, ℕ, suc, ◌+◌, ◌*◌, ◌-◌, ◌^◌, ◌<◌, ◌≤◌, nat_lt, nat_le, nat_eq, false, true, le-ltb, lt-ltb, List, [], ◌∷◌, ◌++◌, length, Option, Some, None, refl, sym, ap, ◌∙◌, subst, arith, append_assoc}
+use Rattle.std.proofs.Common.{◌≡◌, ℕ, suc, ◌+◌, ◌*◌, ◌-◌, ◌^◌, ◌<◌, ◌≤◌, nat_lt, nat_le, nat_eq, false, true, le-ltb, lt-ltb, List, [], ◌∷◌, ◌++◌, length, Option, Some, None, refl, sym, ap, ◌∙◌, arith, append_assoc}
 use Rattle.std.proofs.lemmas.Bool.{lt-leb, le-leb, ne_eqb}
 use Rattle.std.proofs.lemmas.List.Elements.{All-head, All-tail}
 use Rattle.std.specs.List.{flat_map}
@@ -9,7 +9,7 @@ use Rattle.perf_sample.specs.Layout.{fixed_len, FlagsFit}
 use Rattle.ctr_port.specs.InHand.{Of}
 use Rattle.ctr_port.proofs.Laws.{taken_then}
 use Rattle.perf_sample.specs.Spelling.{le, branch_bytes}
-use Rattle.perf_sample.specs.Breaks.{number_at, Field, At, first_of, branch_fields, unless}
+use Rattle.perf_sample.specs.Breaks.{number_at, At, first_of, branch_fields, unless}
 use Rattle.perf_sample.specs.Reading.{cut_at, Stopped}
 use Rattle.perf_sample.specs.declared.faults.SampleFault.{SampleFault}
 use Rattle.perf_sample.specs.declared.faults.SampleFault.TheVariants as fault

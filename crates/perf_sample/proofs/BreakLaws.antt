@@ -1,11 +1,10 @@
 -- The first broken field, field by field.
-use Rattle.std.proofs.Common.{◌≡◌, ◌≢◌, ℕ, zero, suc, ◌+◌, ◌*◌, ◌-◌, ◌%◌, ◌^◌, ◌<◌, ◌≤◌, List, [], ◌∷◌, ◌++◌, length, drop, Bool, true, false, if◌then◌else◌, nat_eq, nat_lt, nat_le, Option, Some, None, refl, sym, ap, ◌∙◌, subst, arith, length-append, append_assoc, lt-ltb, le-ltb}
+use Rattle.std.proofs.Common.{◌≡◌, ◌≢◌, ℕ, ◌^◌, ◌<◌, List, [], ◌∷◌, ◌++◌, length, drop, Bool, true, false, if◌then◌else◌, nat_lt, Option, Some, None, refl, ap, ◌∙◌, subst, arith, length-append, le-ltb}
 use Rattle.std.proofs.Math.Seq.{drop-append_seam}
-use Rattle.std.proofs.lemmas.Bool.{true≢false, false≢true, ltb-true}
 use Rattle.byteorder.specs.Endian.{little_number}
 use Rattle.byteorder.specs.Numbers.{length-bytes_low_first, little_number-reads_back}
 use Rattle.perf_sample.specs.Spelling.{le}
-use Rattle.perf_sample.specs.Breaks.{number_at, Field, At, cut_in, wrong_in, fault_in, or_on, first_of}
+use Rattle.perf_sample.specs.Breaks.{number_at, Field, cut_in, wrong_in, fault_in, or_on, first_of}
 use Rattle.perf_sample.specs.Reading.{cut_at}
 use Rattle.perf_sample.specs.declared.faults.SampleFault.{SampleFault}
 

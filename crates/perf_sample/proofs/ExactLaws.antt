@@ -1,7 +1,6 @@
 -- What a reader answers is what the bytes say.
-use Rattle.std.proofs.Common.{◌≡◌, ◌⊎◌, ℕ, ◌+◌, ◌^◌, ◌<◌, ◌≤◌, List, [], ◌∷◌, ◌++◌, length, Option, Some, None, Result, Ok, Err, refl, sym, ap, ◌∙◌, subst, arith, inl, inr, length-append}
+use Rattle.std.proofs.Common.{◌≡◌, ℕ, ◌<◌, List, [], ◌∷◌, ◌++◌, length, Option, Some, None, Result, Ok, Err, refl, sym, ap, ◌∙◌, subst, arith, inl, inr}
 use Rattle.std.specs.Prelude.{IfOk, IfSome}
-use Rattle.std.specs.Io.KnownBytes.{Consumes}
 use Rattle.perf_sample.specs.declared.sample.Sample.{Sample}
 use Rattle.perf_sample.specs.declared.faults.SampleFault.{SampleFault}
 use Rattle.perf_sample.specs.declared.faults.SampleFault.TheVariants as fault
@@ -77,7 +76,7 @@ of_count fault.ReadFault e = absurd cc
 failed : (f : SampleFault) (answer : Result (Option Sample) SampleFault) → cause_of f ≡ OfRead → Answers (Err f) answer
 failed f answer e = inr (ap Err (of_read f e))
 
-spelled_some : (layout : ℕ) (s : Sample) (x : List ℕ) → Spells layout s x → 0 < length x
+pub spelled_some : (layout : ℕ) (s : Sample) (x : List ℕ) → Spells layout s x → 0 < length x
 unfolding fixed_len
 spelled_some layout s x spells = omega (arith, ap length spells.bytes_are, length_spelling layout s)
 
@@ -96,7 +95,7 @@ pub exact_none : (r : Result (Option Sample) SampleFault) (layout given : ℕ) (
 exact_none r layout given left left' h e = none_told r layout given (told r layout given [] left' (subst (λ (l : Option (List ℕ)). Nexted layout given l left' r) e h))
 
 -- a spelling stands at the front
-clash : (layout : ℕ) (s : Sample) (x rest u : List ℕ) (f : SampleFault) → Spells layout s x → Breaks layout (x ++ rest) f u → ⊥
+pub clash : (layout : ℕ) (s : Sample) (x rest u : List ℕ) (f : SampleFault) → Spells layout s x → Breaks layout (x ++ rest) f u → ⊥
 clash layout s x rest u f spells breaks = absurd (none_some (f, u) (sym (spelled_whole layout s x rest spells) ∙ breaks.first))
 
 sample_by : (c : Cause) (layout given : ℕ) (s : Sample) (x rest : List ℕ) (f : SampleFault) → cause_of f ≡ c → given < most → Spells layout s x → Refused c layout given (x ++ rest) f

@@ -1,5 +1,5 @@
 -- The header of a sample, which comes first.
-use Rattle.std.proofs.Common.{◌≡◌, ◌≢◌, ℕ, zero, suc, ◌+◌, ◌*◌, ◌-◌, ◌^◌, ◌<◌, ◌≤◌, List, [], ◌∷◌, ◌++◌, length, drop, Bool, true, false, nat_eq, Option, Some, None, refl, sym, ap, ◌∙◌, subst, arith, length-append, append_assoc, append-nil, lt-ltb, inl, inr}
+use Rattle.std.proofs.Common.{◌≡◌, ℕ, ◌-◌, ◌^◌, ◌<◌, List, [], ◌∷◌, ◌++◌, length, false, nat_eq, Option, Some, None, refl, sym, ap, ◌∙◌, arith, length-append, append_assoc, append-nil, lt-ltb, inl, inr}
 use Rattle.std.proofs.lemmas.Bool.{ne_eqb, eq-eqb}
 use Rattle.std.proofs.lemmas.List.{drop_all}
 use Rattle.std.specs.Io.KnownBytes.{Consumes, IsAtEnd}
@@ -7,12 +7,12 @@ use Rattle.std.specs.List.{flat_map}
 use Rattle.ctr_port.specs.InHand.{Of}
 use Rattle.perf_sample.specs.Layout.{fixed_len}
 use Rattle.perf_sample.specs.Spelling.{le}
-use Rattle.perf_sample.specs.Breaks.{number_at, is_size, Field, Header, At, rows, row_fields, branch_fields, fields_of, first_of, first_break, wrong_in, unless, Breaks}
-use Rattle.perf_sample.specs.Reading.{cut_at, is_short, IsPartial}
+use Rattle.perf_sample.specs.Breaks.{number_at, is_size, Header, At, rows, row_fields, branch_fields, fields_of, first_break, wrong_in, unless, Breaks}
+use Rattle.perf_sample.specs.Reading.{cut_at, IsPartial}
 use Rattle.perf_sample.specs.declared.faults.SampleFault.{SampleFault}
 use Rattle.perf_sample.specs.declared.faults.SampleFault.TheVariants as fault
 use Rattle.perf_sample.specs.declared.faults.Place.TheVariants as place
-use Rattle.perf_sample.proofs.BreakLaws.{cut_first, passes, stops, length_le, number_read, number_behind, not_empty}
+use Rattle.perf_sample.proofs.BreakLaws.{cut_first, stops, length_le, number_read, number_behind, not_empty}
 use Rattle.perf_sample.proofs.ReadingLaws.{of_taken}
 
 -- the bytes of a header of any type

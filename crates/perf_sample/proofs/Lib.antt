@@ -7,4 +7,6 @@ pub mod HeaderLaws
 pub mod RowLaws
 pub mod SampleLaws
 pub mod OneSpelling
+pub mod WholeLaws
+pub mod CaseLaws
 pub mod ExactLaws

@@ -1,6 +1,5 @@
 -- Numbers as bytes, and back.
-use Rattle.std.proofs.Common.{◌≡◌, ℕ, zero, suc, ◌+◌, ◌*◌, ◌-◌, ◌/◌, ◌%◌, ◌^◌, ◌<◌, ◌≤◌, List, [], ◌∷◌, ◌++◌, length, take, drop, get_or, slice_index, refl, sym, ap, ◌∙◌, subst, arith, inl, inr, append_assoc}
-use Rattle.std.specs.Int.{w32, w64, w16, from_le_bytes, to_le_bytes}
+use Rattle.std.proofs.Common.{◌≡◌, ℕ, ◌+◌, ◌<◌, List, ◌++◌, length, take, drop, get_or, sym, ap, ◌∙◌, subst, arith, inl, inr, append_assoc}
 use Rattle.std.proofs.lemmas.Nat.{le_bytes_2, le_bytes_4, le_bytes_8}
 use Rattle.std.proofs.lemmas.Bool.{cases_lt}
 use Rattle.std.proofs.lemmas.List.{get_or-drop, length-drop, length-take, get_or-take, get_or_past, take-append-drop}
@@ -16,7 +15,7 @@ pub number_back : (bytes : List ℕ) → length bytes ≡ 8 → AreBytes bytes �
 unfolding le
 number_back bytes len are = le_bytes_8 bytes (little_number 8 bytes) len are (omega arith)
 
-number_back_4 : (bytes : List ℕ) → length bytes ≡ 4 → AreBytes bytes → le 4 (little_number 4 bytes) ≡ bytes
+pub number_back_4 : (bytes : List ℕ) → length bytes ≡ 4 → AreBytes bytes → le 4 (little_number 4 bytes) ≡ bytes
 unfolding le
 number_back_4 bytes len are = le_bytes_4 bytes (little_number 4 bytes) len are (omega arith)
 
@@ -24,10 +23,10 @@ number_back_2 : (bytes : List ℕ) → length bytes ≡ 2 → AreBytes bytes →
 unfolding le
 number_back_2 bytes len are = le_bytes_2 bytes (little_number 2 bytes) len are (omega arith)
 
-are_behind : (n : ℕ) (bytes : List ℕ) → AreBytes bytes → AreBytes (drop n bytes)
+pub are_behind : (n : ℕ) (bytes : List ℕ) → AreBytes bytes → AreBytes (drop n bytes)
 are_behind n bytes are i = rw get_or-drop (are (n + i))
 
-are_before : (n : ℕ) (bytes : List ℕ) → AreBytes bytes → AreBytes (take n bytes)
+pub are_before : (n : ℕ) (bytes : List ℕ) → AreBytes bytes → AreBytes (take n bytes)
 are_before n bytes are i =
     elim (cases_lt i n) [
       | inl lt ↦ rw (get_or-take n bytes i 0 lt) (are i)

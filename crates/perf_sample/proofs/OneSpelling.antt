@@ -1,13 +1,12 @@
 -- Bytes begin with the spelling of one sample at most, and then they have no break.
-use Rattle.std.proofs.Common.{◌≡◌, ℕ, zero, suc, ◌+◌, ◌*◌, ◌-◌, ◌%◌, ◌^◌, ◌<◌, ◌≤◌, ◌&&◌, List, [], ◌∷◌, ◌++◌, length, take, drop, Bool, true, false, if◌then◌else◌, nat_le, nat_eq, Option, Some, None, refl, sym, ap, ◌∙◌, subst, arith, append_assoc, append-nil, length-append}
+use Rattle.std.proofs.Common.{◌≡◌, ℕ, ◌+◌, ◌*◌, ◌-◌, ◌%◌, ◌^◌, ◌<◌, ◌≤◌, List, [], ◌∷◌, ◌++◌, length, take, drop, Bool, true, false, if◌then◌else◌, nat_le, nat_eq, None, refl, sym, ap, ◌∙◌, arith, append_assoc, length-append}
 use Rattle.std.proofs.Math.Seq.{take-append_seam, drop-append_seam}
 use Rattle.std.proofs.lemmas.Bool.{le-leb, eq-eqb}
 use Rattle.std.proofs.lemmas.List.Elements.{All-head, All-tail}
 use Rattle.std.specs.List.{All, flat_map}
 use Rattle.perf_sample.specs.declared.sample.Branch.{Branch}
 use Rattle.perf_sample.specs.declared.sample.Sample.{Sample}
-use Rattle.perf_sample.specs.declared.faults.SampleFault.{SampleFault}
-use Rattle.perf_sample.specs.Layout.{has, width, fields_len, fixed_len, LeftOut, Fits}
+use Rattle.perf_sample.specs.Layout.{has, fixed_len, LeftOut, Fits}
 use Rattle.perf_sample.specs.Spelling.{le, present, fields, branch_bytes, spelling, Spells}
 use Rattle.perf_sample.specs.Breaks.{number_at, is_size, first_of, first_break, branch_fields}
 use Rattle.perf_sample.specs.Range.{IsBranch, IsSample}
@@ -70,10 +69,10 @@ two_by true m n p q offm offn offp offq hm hn hp hq e =
     (le_same 4 m p hm hp parts.0, le_same 4 n q hn hq parts.1)
 two_by false m n p q offm offn offp offq hm hn hp hq e = (offm refl ∙ sym (offp refl), offn refl ∙ sym (offq refl))
 
-abbrev the_branch : ℕ → ℕ → ℕ → Branch
+abbrev pub the_branch : ℕ → ℕ → ℕ → Branch
 the_branch from to flags = record { from = from; to = to; flags = flags }
 
-abbrev the_sample : ℕ → ℕ → ℕ → ℕ → ℕ → ℕ → ℕ → ℕ → ℕ → ℕ → ℕ → List Branch → Sample
+abbrev pub the_sample : ℕ → ℕ → ℕ → ℕ → ℕ → ℕ → ℕ → ℕ → ℕ → ℕ → ℕ → List Branch → Sample
 the_sample misc identifier ip pid tid time addr id stream_id cpu period branches = record {
   misc = misc;
   identifier = identifier;
@@ -105,32 +104,32 @@ record SameFields (s t : Sample) : Type 0 where
 fields_same : (layout : ℕ) (s t : Sample) → Fits layout s → Fits layout t → IsSample s → IsSample t → fields layout s ≡ fields layout t → SameFields s t
 unfolding fields
 fields_same layout s t f g is it e =
-    let a1 = present layout 16 (le 8 s.identifier) in
-    let b1 = present layout 0 (le 8 s.ip) in
-    let c1 = present layout 1 (le 4 s.pid ++ le 4 s.tid) in
-    let d1 = present layout 2 (le 8 s.time) in
-    let e1 = present layout 3 (le 8 s.addr) in
-    let f1 = present layout 6 (le 8 s.id) in
-    let g1 = present layout 9 (le 8 s.stream_id) in
-    let h1 = present layout 7 (le 4 s.cpu ++ le 4 0) in
-    let i1 = present layout 8 (le 8 s.period) in
-    let a2 = present layout 16 (le 8 t.identifier) in
-    let b2 = present layout 0 (le 8 t.ip) in
-    let c2 = present layout 1 (le 4 t.pid ++ le 4 t.tid) in
-    let d2 = present layout 2 (le 8 t.time) in
-    let e2 = present layout 3 (le 8 t.addr) in
-    let f2 = present layout 6 (le 8 t.id) in
-    let g2 = present layout 9 (le 8 t.stream_id) in
-    let h2 = present layout 7 (le 4 t.cpu ++ le 4 0) in
-    let i2 = present layout 8 (le 8 t.period) in
-    let pi = cut_back (a1 ++ b1 ++ c1 ++ d1 ++ e1 ++ f1 ++ g1 ++ h1) (a2 ++ b2 ++ c2 ++ d2 ++ e2 ++ f2 ++ g2 ++ h2) i1 i2 (length_one layout 8 s.period ∙ sym (length_one layout 8 t.period)) e in
-    let ph = cut_back (a1 ++ b1 ++ c1 ++ d1 ++ e1 ++ f1 ++ g1) (a2 ++ b2 ++ c2 ++ d2 ++ e2 ++ f2 ++ g2) h1 h2 (length_two layout 7 s.cpu 0 ∙ sym (length_two layout 7 t.cpu 0)) pi.0 in
-    let pg = cut_back (a1 ++ b1 ++ c1 ++ d1 ++ e1 ++ f1) (a2 ++ b2 ++ c2 ++ d2 ++ e2 ++ f2) g1 g2 (length_one layout 9 s.stream_id ∙ sym (length_one layout 9 t.stream_id)) ph.0 in
-    let pf = cut_back (a1 ++ b1 ++ c1 ++ d1 ++ e1) (a2 ++ b2 ++ c2 ++ d2 ++ e2) f1 f2 (length_one layout 6 s.id ∙ sym (length_one layout 6 t.id)) pg.0 in
-    let pe = cut_back (a1 ++ b1 ++ c1 ++ d1) (a2 ++ b2 ++ c2 ++ d2) e1 e2 (length_one layout 3 s.addr ∙ sym (length_one layout 3 t.addr)) pf.0 in
-    let pd = cut_back (a1 ++ b1 ++ c1) (a2 ++ b2 ++ c2) d1 d2 (length_one layout 2 s.time ∙ sym (length_one layout 2 t.time)) pe.0 in
-    let pc = cut_back (a1 ++ b1) (a2 ++ b2) c1 c2 (length_two layout 1 s.pid s.tid ∙ sym (length_two layout 1 t.pid t.tid)) pd.0 in
-    let pb = cut_back a1 a2 b1 b2 (length_one layout 0 s.ip ∙ sym (length_one layout 0 t.ip)) pc.0 in
+    let a_s = present layout 16 (le 8 s.identifier) in
+    let b_s = present layout 0 (le 8 s.ip) in
+    let c_s = present layout 1 (le 4 s.pid ++ le 4 s.tid) in
+    let d_s = present layout 2 (le 8 s.time) in
+    let e_s = present layout 3 (le 8 s.addr) in
+    let f_s = present layout 6 (le 8 s.id) in
+    let g_s = present layout 9 (le 8 s.stream_id) in
+    let h_s = present layout 7 (le 4 s.cpu ++ le 4 0) in
+    let i_s = present layout 8 (le 8 s.period) in
+    let a_t = present layout 16 (le 8 t.identifier) in
+    let b_t = present layout 0 (le 8 t.ip) in
+    let c_t = present layout 1 (le 4 t.pid ++ le 4 t.tid) in
+    let d_t = present layout 2 (le 8 t.time) in
+    let e_t = present layout 3 (le 8 t.addr) in
+    let f_t = present layout 6 (le 8 t.id) in
+    let g_t = present layout 9 (le 8 t.stream_id) in
+    let h_t = present layout 7 (le 4 t.cpu ++ le 4 0) in
+    let i_t = present layout 8 (le 8 t.period) in
+    let pi = cut_back (a_s ++ b_s ++ c_s ++ d_s ++ e_s ++ f_s ++ g_s ++ h_s) (a_t ++ b_t ++ c_t ++ d_t ++ e_t ++ f_t ++ g_t ++ h_t) i_s i_t (length_one layout 8 s.period ∙ sym (length_one layout 8 t.period)) e in
+    let ph = cut_back (a_s ++ b_s ++ c_s ++ d_s ++ e_s ++ f_s ++ g_s) (a_t ++ b_t ++ c_t ++ d_t ++ e_t ++ f_t ++ g_t) h_s h_t (length_two layout 7 s.cpu 0 ∙ sym (length_two layout 7 t.cpu 0)) pi.0 in
+    let pg = cut_back (a_s ++ b_s ++ c_s ++ d_s ++ e_s ++ f_s) (a_t ++ b_t ++ c_t ++ d_t ++ e_t ++ f_t) g_s g_t (length_one layout 9 s.stream_id ∙ sym (length_one layout 9 t.stream_id)) ph.0 in
+    let pf = cut_back (a_s ++ b_s ++ c_s ++ d_s ++ e_s) (a_t ++ b_t ++ c_t ++ d_t ++ e_t) f_s f_t (length_one layout 6 s.id ∙ sym (length_one layout 6 t.id)) pg.0 in
+    let pe = cut_back (a_s ++ b_s ++ c_s ++ d_s) (a_t ++ b_t ++ c_t ++ d_t) e_s e_t (length_one layout 3 s.addr ∙ sym (length_one layout 3 t.addr)) pf.0 in
+    let pd = cut_back (a_s ++ b_s ++ c_s) (a_t ++ b_t ++ c_t) d_s d_t (length_one layout 2 s.time ∙ sym (length_one layout 2 t.time)) pe.0 in
+    let pc = cut_back (a_s ++ b_s) (a_t ++ b_t) c_s c_t (length_two layout 1 s.pid s.tid ∙ sym (length_two layout 1 t.pid t.tid)) pd.0 in
+    let pb = cut_back a_s a_t b_s b_t (length_one layout 0 s.ip ∙ sym (length_one layout 0 t.ip)) pc.0 in
     let task = two_by (has layout 1) s.pid s.tid t.pid t.tid f.pid f.tid g.pid g.tid is.pid is.tid it.pid it.tid pc.1 in
     let hart = two_by (has layout 7) s.cpu 0 t.cpu 0 f.cpu (λ off. refl) g.cpu (λ off. refl) is.cpu (omega arith) it.cpu (omega arith) ph.1 in
     record {
@@ -194,24 +193,29 @@ spelling_same layout s t f g is it few less e =
     let other = size_of layout t in
     let sizes : size ≡ other = sym (length_spelling layout s) ∙ ap length e ∙ length_spelling layout t in
     let counts : length s.branches ≡ length t.branches = omega (arith, sizes) in
-    let h1 = header_bytes s.misc size in
-    let h2 = header_bytes t.misc other in
+    let h_s = header_bytes s.misc size in
+    let h_t = header_bytes t.misc other in
     let n1 = le 8 (length s.branches) in
     let n2 = le 8 (length t.branches) in
     let stacks : length (flat_map branch_bytes s.branches) ≡ length (flat_map branch_bytes t.branches) = omega (arith, length_branches s.branches, length_branches t.branches, counts) in
-    let last = cut_back ((h1 ++ fields layout s) ++ n1) ((h2 ++ fields layout t) ++ n2) (flat_map branch_bytes s.branches) (flat_map branch_bytes t.branches) stacks e in
-    let third = cut_back (h1 ++ fields layout s) (h2 ++ fields layout t) n1 n2 (length_le 8 (length s.branches) ∙ sym (length_le 8 (length t.branches))) last.0 in
-    let second = cut_back h1 h2 (fields layout s) (fields layout t) (length_fields layout s ∙ sym (length_fields layout t)) third.0 in
+    let last = cut_back ((h_s ++ fields layout s) ++ n1) ((h_t ++ fields layout t) ++ n2) (flat_map branch_bytes s.branches) (flat_map branch_bytes t.branches) stacks e in
+    let third = cut_back (h_s ++ fields layout s) (h_t ++ fields layout t) n1 n2 (length_le 8 (length s.branches) ∙ sym (length_le 8 (length t.branches))) last.0 in
+    let second = cut_back h_s h_t (fields layout s) (fields layout t) (length_fields layout s ∙ sym (length_fields layout t)) third.0 in
     let first = cut_back (le 4 9 ++ le 2 s.misc) (le 4 9 ++ le 2 t.misc) (le 2 size) (le 2 other) (length_le 2 size ∙ sym (length_le 2 other)) second.0 in
     let misc = cut_front (le 4 9) (le 4 9) (le 2 s.misc) (le 2 t.misc) refl first.0 in
     sample_same s t (le_same 2 s.misc t.misc is.misc it.misc misc.1) (fields_same layout s t f g is it second.1) (branches_same s.branches t.branches counts is.branches it.branches last.1)
 
--- bytes begin with one spelling at most, and of one sample
-pub one_spelling : (layout : ℕ) (s t : Sample) (x y z w : List ℕ) → IsSample s → IsSample t → Spells layout s x → Spells layout t y → x ++ z ≡ y ++ w → (s ≡ t) × (x ≡ y) × (z ≡ w)
+-- bytes begin with one spelling at most
+pub one_length : (layout : ℕ) (s t : Sample) (x y z w : List ℕ) → Spells layout s x → Spells layout t y → x ++ z ≡ y ++ w → (x ≡ y) × (z ≡ w)
 unfolding fixed_len
-one_spelling layout s t x y z w is it first second e =
+one_length layout s t x y z w first second e =
     let long : 8 ≤ length x = omega (arith, ap length first.bytes_are, length_spelling layout s) in
     let much : 8 ≤ length y = omega (arith, ap length second.bytes_are, length_spelling layout t) in
     let len : length x ≡ length y = length_told layout s x first ∙ sym (size_stays x z long) ∙ ap size_at e ∙ size_stays y w much ∙ sym (length_told layout t y second) in
-    let parts = cut_front x y z w len e in
+    cut_front x y z w len e
+
+-- and of one sample
+pub one_spelling : (layout : ℕ) (s t : Sample) (x y z w : List ℕ) → IsSample s → IsSample t → Spells layout s x → Spells layout t y → x ++ z ≡ y ++ w → (s ≡ t) × (x ≡ y) × (z ≡ w)
+one_spelling layout s t x y z w is it first second e =
+    let parts = one_length layout s t x y z w first second e in
     (spelling_same layout s t first.fits second.fits is it first.few second.few (sym first.bytes_are ∙ parts.0 ∙ second.bytes_are), parts.0, parts.1)

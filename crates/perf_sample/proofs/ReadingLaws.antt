@@ -1,6 +1,6 @@
 -- Bytes taken from a source, and how reading stops.
-use Rattle.std.proofs.Common.{◌≡◌, ℕ, ◌+◌, ◌-◌, ◌≤◌, ◌<◌, min, lt-ltb, List, [], ◌++◌, length, take, drop, arith, length-append, Option, None, Some, Bool, true, false, refl, sym, ap, ◌∙◌, subst, append-nil, append_assoc}
-use Rattle.std.specs.Io.KnownBytes.{Consumes, Keeps, IsAtEnd}
+use Rattle.std.proofs.Common.{◌≡◌, ℕ, ◌+◌, ◌-◌, ◌≤◌, ◌<◌, min, lt-ltb, List, [], ◌++◌, length, take, drop, arith, length-append, Option, None, Some, refl, sym, ap, ◌∙◌, subst}
+use Rattle.std.specs.Io.KnownBytes.{Consumes, Keeps}
 use Rattle.std.proofs.lemmas.List.{length-take, length-take-le, length-drop, drop_all}
 use borrow.Rule.Slice.PartMut.{put_mid, post_of}
 use Rattle.ctr_port.specs.InHand.{Of}

@@ -1,5 +1,5 @@
 -- The fields between the header and the number of branches, row by row.
-use Rattle.std.proofs.Common.{◌≡◌, ◌≢◌, ℕ, zero, suc, ◌+◌, ◌-◌, ◌^◌, ◌<◌, ◌≤◌, List, [], ◌∷◌, ◌++◌, length, take, drop, get_or, Bool, true, false, if◌then◌else◌, nat_eq, Option, Some, None, Result, Ok, Err, refl, sym, ap, ◌∙◌, subst, arith, append_assoc, append-nil, add-one, length-append, take-append-drop, drop-cons}
+use Rattle.std.proofs.Common.{◌≡◌, ℕ, zero, suc, ◌+◌, ◌^◌, ◌<◌, List, [], ◌∷◌, ◌++◌, length, take, drop, get_or, Bool, true, false, if◌then◌else◌, Option, Some, None, Result, Ok, Err, refl, sym, ap, ◌∙◌, subst, arith, append_assoc, append-nil, add-one, length-append, take-append-drop, drop-cons}
 use Rattle.std.proofs.lemmas.Bool.{true≢false, false≢true, ne_eqb}
 use Rattle.std.proofs.lemmas.Grind.{flat_map-append}
 use Rattle.std.proofs.lemmas.List.{take_more}
@@ -12,7 +12,7 @@ use Rattle.perf_sample.specs.declared.faults.Place.{Place}
 use Rattle.perf_sample.specs.declared.faults.Place.TheVariants as place
 use Rattle.perf_sample.specs.declared.faults.SampleFault.{SampleFault}
 use Rattle.perf_sample.specs.declared.faults.SampleFault.TheVariants as fault
-use Rattle.perf_sample.specs.Layout.{has, LeftOut, Fits}
+use Rattle.perf_sample.specs.Layout.{has, Fits}
 use Rattle.perf_sample.specs.Spelling.{le, present, fields}
 use Rattle.perf_sample.specs.Breaks.{number_at, Field, At, rows, row_fields, wrong_in, first_of}
 use Rattle.perf_sample.specs.Reading.{cut_at, Stopped}
@@ -27,8 +27,8 @@ abbrev none : Row
 none = (0, place.Identifier)
 
 -- the row of this number
-abbrev pub row : ℕ → Row
-row n = get_or rows n none
+abbrev pub row_of : ℕ → Row
+row_of n = get_or rows n none
 
 -- the bytes of a row, where the layout has its field
 abbrev pub row_bytes : ℕ → Sample → Row → List ℕ
@@ -49,7 +49,7 @@ there : {A : Type 0} (b : Bool) → b ≡ true → b ≡ false → A
 there true e f = absurd (true≢false f)
 there false e f = absurd (false≢true e)
 
-pub row_kept : (layout n : ℕ) (old new : Sample) → n < 9 → SetsOnly (row n).1 old new → has layout (row n).0 ≡ true → Fits layout old → Kept layout n old new
+pub row_kept : (layout n : ℕ) (old new : Sample) → n < 9 → SetsOnly (row_of n).1 old new → has layout (row_of n).0 ≡ true → Fits layout old → Kept layout n old new
 row_kept layout zero old new within e on f = record {
   front = ap (λ (s : Sample). front layout s 0) e;
   fits = subst (Fits layout) (sym e) (record {
@@ -215,44 +215,44 @@ row_kept layout (suc (suc (suc (suc (suc (suc (suc (suc zero)))))))) old new wit
 row_kept layout (suc (suc (suc (suc (suc (suc (suc (suc (suc n))))))))) old new within e on f = absurd (omega (arith, within))
 
 -- one row more
-pub front_more : (layout : ℕ) (s : Sample) (n : ℕ) → n < 9 → front layout s (n + 1) ≡ front layout s n ++ row_bytes layout s (row n)
+pub front_more : (layout : ℕ) (s : Sample) (n : ℕ) → n < 9 → front layout s (n + 1) ≡ front layout s n ++ row_bytes layout s (row_of n)
 front_more layout s n within =
     ap (flat_map (row_bytes layout s)) (take_more rows n none within)
-    ∙ flat_map-append (row_bytes layout s) (take n rows) (row n ∷ [])
-    ∙ ap (λ (t : List ℕ). front layout s n ++ t) (append-nil (row_bytes layout s (row n)))
+    ∙ flat_map-append (row_bytes layout s) (take n rows) (row_of n ∷ [])
+    ∙ ap (λ (t : List ℕ). front layout s n ++ t) (append-nil (row_bytes layout s (row_of n)))
 
 left_out_by : (b : Bool) (x y : List ℕ) → b ≡ false → x ++ (if b then y else []) ≡ x
 left_out_by true x y e = absurd (true≢false e)
 left_out_by false x y e = append-nil x
 
 -- a row that the layout leaves out
-pub front_left_out : (layout : ℕ) (s : Sample) (n : ℕ) → n < 9 → has layout (row n).0 ≡ false → front layout s (n + 1) ≡ front layout s n
-front_left_out layout s n within off = front_more layout s n within ∙ left_out_by (has layout (row n).0) (front layout s n) (place_bytes (row n).1 s) off
+pub front_left_out : (layout : ℕ) (s : Sample) (n : ℕ) → n < 9 → has layout (row_of n).0 ≡ false → front layout s (n + 1) ≡ front layout s n
+front_left_out layout s n within off = front_more layout s n within ∙ left_out_by (has layout (row_of n).0) (front layout s n) (place_bytes (row_of n).1 s) off
 
 there_by : (b : Bool) (x y : List ℕ) → b ≡ true → x ++ (if b then y else []) ≡ x ++ y
 there_by true x y e = refl
 there_by false x y e = absurd (false≢true e)
 
 -- a row that was read
-pub front_read : (layout : ℕ) (old new : Sample) (n : ℕ) → n < 9 → has layout (row n).0 ≡ true → Kept layout n old new → front layout new (n + 1) ≡ front layout old n ++ place_bytes (row n).1 new
+pub front_read : (layout : ℕ) (old new : Sample) (n : ℕ) → n < 9 → has layout (row_of n).0 ≡ true → Kept layout n old new → front layout new (n + 1) ≡ front layout old n ++ place_bytes (row_of n).1 new
 front_read layout old new n within on kept =
     front_more layout new n within
-    ∙ there_by (has layout (row n).0) (front layout new n) (place_bytes (row n).1 new) on
-    ∙ ap (λ (t : List ℕ). t ++ place_bytes (row n).1 new) kept.front
+    ∙ there_by (has layout (row_of n).0) (front layout new n) (place_bytes (row_of n).1 new) on
+    ∙ ap (λ (t : List ℕ). t ++ place_bytes (row_of n).1 new) kept.front
 
 -- all rows are the fields
 pub front_whole : (layout : ℕ) (s : Sample) → front layout s 9 ≡ fields layout s
 unfolding fields
 front_whole layout s =
-    let a = row_bytes layout s (row 0) in
-    let b = row_bytes layout s (row 1) in
-    let c = row_bytes layout s (row 2) in
-    let d = row_bytes layout s (row 3) in
-    let e = row_bytes layout s (row 4) in
-    let f = row_bytes layout s (row 5) in
-    let g = row_bytes layout s (row 6) in
-    let h = row_bytes layout s (row 7) in
-    let i = row_bytes layout s (row 8) in
+    let a = row_bytes layout s (row_of 0) in
+    let b = row_bytes layout s (row_of 1) in
+    let c = row_bytes layout s (row_of 2) in
+    let d = row_bytes layout s (row_of 3) in
+    let e = row_bytes layout s (row_of 4) in
+    let f = row_bytes layout s (row_of 5) in
+    let g = row_bytes layout s (row_of 6) in
+    let h = row_bytes layout s (row_of 7) in
+    let i = row_bytes layout s (row_of 8) in
     sym (sym (append-nil (a ++ b ++ c ++ d ++ e ++ f ++ g ++ h ++ i))
     ∙ append_assoc (a ++ b ++ c ++ d ++ e ++ f ++ g ++ h) i []
     ∙ append_assoc (a ++ b ++ c ++ d ++ e ++ f ++ g) h (i ++ [])
@@ -335,21 +335,21 @@ row_there_by true p fs e = refl
 row_there_by false p fs e = absurd (false≢true e)
 
 -- the fields of all rows, at a row that is there
-rows_split : (layout n : ℕ) → n < 9 → has layout (row n).0 ≡ true
-    → flat_map (row_fields layout) rows ≡ flat_map (row_fields layout) (take n rows) ++ ((At (row n).1 ∷ []) ++ flat_map (row_fields layout) (drop (n + 1) rows))
+rows_split : (layout n : ℕ) → n < 9 → has layout (row_of n).0 ≡ true
+    → flat_map (row_fields layout) rows ≡ flat_map (row_fields layout) (take n rows) ++ ((At (row_of n).1 ∷ []) ++ flat_map (row_fields layout) (drop (n + 1) rows))
 rows_split layout n within on =
-    let behind : drop n rows ≡ row n ∷ drop (n + 1) rows = rw (add-one n) (drop-cons rows n none within) in
+    let behind : drop n rows ≡ row_of n ∷ drop (n + 1) rows = rw (add-one n) (drop-cons rows n none within) in
     ap (flat_map (row_fields layout)) (sym (take-append-drop n rows))
     ∙ flat_map-append (row_fields layout) (take n rows) (drop n rows)
     ∙ ap (λ (l : List Row). flat_map (row_fields layout) (take n rows) ++ flat_map (row_fields layout) l) behind
-    ∙ ap (λ (l : List Field). flat_map (row_fields layout) (take n rows) ++ l) (row_there_by (has layout (row n).0) (row n).1 (flat_map (row_fields layout) (drop (n + 1) rows)) on)
+    ∙ ap (λ (l : List Field). flat_map (row_fields layout) (take n rows) ++ l) (row_there_by (has layout (row_of n).0) (row_of n).1 (flat_map (row_fields layout) (drop (n + 1) rows)) on)
 
 -- reading stopped in a row that follows others
-pub rows_stop : (a b c : Option (List ℕ)) (layout n : ℕ) (s : Sample) (f : SampleFault) → n < 9 → has layout (row n).0 ≡ true → Consumes a b (front layout s n)
-    → ((layout size : ℕ) → Stopped (first_of layout size (At (row n).1 ∷ [])) b c f) → (size : ℕ) → Stopped (first_of layout size (flat_map (row_fields layout) rows)) a c f
+pub rows_stop : (a b c : Option (List ℕ)) (layout n : ℕ) (s : Sample) (f : SampleFault) → n < 9 → has layout (row_of n).0 ≡ true → Consumes a b (front layout s n)
+    → ((layout size : ℕ) → Stopped (first_of layout size (At (row_of n).1 ∷ [])) b c f) → (size : ℕ) → Stopped (first_of layout size (flat_map (row_fields layout) rows)) a c f
 rows_stop a b c layout n s f within on took h size =
     let behind = flat_map (row_fields layout) (drop (n + 1) rows) in
-    let here = At (row n).1 ∷ [] in
+    let here = At (row_of n).1 ∷ [] in
     stopped_after a b c (front layout s n) (first_of layout size here) (first_of layout size (flat_map (row_fields layout) rows)) f took
     (λ z r e.
     ap (λ (l : List Field). first_of layout size l (front layout s n ++ z)) (rows_split layout n within on)
@@ -371,7 +371,7 @@ row_put (Err f) a b p bytes old new took (is, at, cpu, reserved, spelled, some, 
     stops layout size (At place.Cpu) [] (le 4 cpu ++ le 4 reserved) z fault.CpuReserved (two_halves cpu reserved)
     (rw (reserved_read cpu reserved z small, ne_eqb reserved 0 some) refl)))
 
-row_at : (n : ℕ) → n < 9 → IsRow (row n)
+row_at : (n : ℕ) → n < 9 → IsRow (row_of n)
 row_at n within = all_rows n none within
 
 held : (p : Place) (bytes : List ℕ) (s : Sample) → is_row p ≡ true → Holds p bytes s → place_bytes p s ≡ bytes
@@ -390,9 +390,9 @@ held (place.To i) bytes s e h = absurd (false≢true e)
 held (place.Flags i) bytes s e h = absurd (false≢true e)
 
 -- the bytes of a row were taken after those of the rows before it
-pub front_taken : (a b c : Option (List ℕ)) (layout : ℕ) (old new : Sample) (n : ℕ) → n < 9 → has layout (row n).0 ≡ true → Kept layout n old new → Consumes a b (front layout old n)
-    → ((bytes : List ℕ) × Consumes b c bytes × Holds (row n).1 bytes new × SetsOnly (row n).1 old new) → Consumes a c (front layout new (n + 1))
+pub front_taken : (a b c : Option (List ℕ)) (layout : ℕ) (old new : Sample) (n : ℕ) → n < 9 → has layout (row_of n).0 ≡ true → Kept layout n old new → Consumes a b (front layout old n)
+    → ((bytes : List ℕ) × Consumes b c bytes × Holds (row_of n).1 bytes new × SetsOnly (row_of n).1 old new) → Consumes a c (front layout new (n + 1))
 front_taken a b c layout old new n within on kept took (bytes, next, holds, sets) =
     let whole : front layout new (n + 1) ≡ front layout old n ++ bytes =
-    front_read layout old new n within on kept ∙ ap (λ (t : List ℕ). front layout old n ++ t) (held (row n).1 bytes new (row_at n within) holds) in
+    front_read layout old new n within on kept ∙ ap (λ (t : List ℕ). front layout old n ++ t) (held (row_of n).1 bytes new (row_at n within) holds) in
     subst (Consumes a c) (sym whole) (taken_then a b c (front layout old n) bytes took next)

@@ -1,5 +1,5 @@
 -- A sample from left to right.
-use Rattle.std.proofs.Common.{◌≡◌, ◌≢◌, ℕ, suc, ◌+◌, ◌*◌, ◌-◌, ◌^◌, ◌<◌, ◌≤◌, List, [], ◌∷◌, ◌++◌, length, Bool, true, false, Option, Some, None, refl, sym, ap, ◌∙◌, subst, arith, append_assoc, length-append, inl, inr}
+use Rattle.std.proofs.Common.{◌≡◌, ℕ, ◌+◌, ◌*◌, ◌-◌, ◌^◌, ◌<◌, ◌≤◌, List, [], ◌∷◌, ◌++◌, length, true, Option, Some, None, refl, sym, ap, ◌∙◌, subst, arith, append_assoc, length-append, inr}
 use Rattle.std.proofs.lemmas.Bool.{eq-eqb, le-leb}
 use Rattle.std.specs.Io.KnownBytes.{Consumes}
 use Rattle.std.specs.List.{flat_map}
@@ -8,14 +8,13 @@ use Rattle.perf_sample.specs.declared.sample.Branch.{Branch}
 use Rattle.perf_sample.specs.declared.sample.Sample.{Sample}
 use Rattle.perf_sample.specs.declared.faults.SampleFault.{SampleFault}
 use Rattle.perf_sample.specs.declared.faults.Place.TheVariants as place
-use Rattle.perf_sample.specs.Layout.{fields_len, fixed_len, FlagsFit, Fits}
+use Rattle.perf_sample.specs.Layout.{fixed_len, FlagsFit, Fits}
 use Rattle.perf_sample.specs.Spelling.{le, fields, branch_bytes, spelling, Spells}
-use Rattle.perf_sample.specs.Breaks.{number_at, is_size, Field, Header, At, rows, row_fields, branch_fields, fields_of, first_of, first_break, Breaks}
+use Rattle.perf_sample.specs.Breaks.{number_at, is_size, Field, Header, At, rows, row_fields, branch_fields, fields_of, first_of, first_break}
 use Rattle.perf_sample.specs.Reading.{Cause, OfRead, OfCount, OfBytes, cause_of, StoppedBy, Stopped, BrokeBy, Broke, header_bytes}
 use Rattle.perf_sample.proofs.BreakLaws.{passes, early, length_le, number_read, number_behind, not_empty}
-use Rattle.perf_sample.proofs.HeaderLaws.{any_header, length_header, kind_read, size_read}
+use Rattle.perf_sample.proofs.HeaderLaws.{length_header, kind_read, size_read}
 use Rattle.perf_sample.proofs.RowLaws.{rows_pass, front_whole, all_rows}
-use Rattle.perf_sample.proofs.BranchLaws.{branches_pass}
 use Rattle.perf_sample.proofs.SpellingLaws.{length_fields}
 
 -- reading stopped in fields that follow others of the same sample

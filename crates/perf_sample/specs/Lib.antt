@@ -4,5 +4,6 @@ pub mod Breaks
 pub mod Reading
 pub mod Rows
 pub mod Range
+pub mod Cases
 pub mod Reader
 pub mod PerfType

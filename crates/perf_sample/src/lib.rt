@@ -1,6 +1,7 @@
 //! Perf samples with branch stacks, as values and as bytes: the record PERF_RECORD_SAMPLE of Linux `perf_event.h`.
 //!
-//! A layout says which fields a sample has. `encode` writes a sample as the one spelling that its layout gives it.
+//! A layout says which fields a sample has. `encode` writes a sample as the one spelling that its layout gives it, and a
+//! `SampleReader` reads a stream of them, or answers the first field that is broken.
 #![tactic(auto)]
 
 mod branch;
@@ -20,12 +21,14 @@ mod writing;
 
 pub use branches::Branches;
 pub use faults::{Place, SampleFault};
-pub use laws::no_proper_prefix;
+pub use laws::{no_proper_prefix, one_of_three};
 pub use layout::Layout;
 pub use perf_types::perf_type;
 pub use reader::SampleReader;
 pub use sample::{Branch, Sample};
 pub use writing::{Buffer, encode};
 
+#[cfg(test)]
+mod reader_tests;
 #[cfg(test)]
 mod tests;

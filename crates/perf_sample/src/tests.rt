@@ -5,7 +5,7 @@ use arrayvec::ArrayVec;
 use std::test::*;
 
 // A call at 80000000 to 80000008, recorded by thread 1 of process 1 with ip, pid, tid and the branch stack.
-const ONE_CALL: [u8; 56] = [
+pub(crate) const ONE_CALL: [u8; 56] = [
     0x09, 0x00, 0x00, 0x00, // type: PERF_RECORD_SAMPLE
     0x03, 0x00, // misc: PERF_RECORD_MISC_HYPERVISOR
     0x38, 0x00, // size: 56
@@ -18,7 +18,7 @@ const ONE_CALL: [u8; 56] = [
 ];
 
 // Every field in its place, with a value of its own; a branch with the highest flag that isn't reserved.
-const EVERY_FIELD: [u8; 112] = [
+pub(crate) const EVERY_FIELD: [u8; 112] = [
     0x09, 0x00, 0x00, 0x00, 0x02, 0x01, 0x70, 0x00, // misc 0x102, size 112
     0x11, 0x00, 0x00, 0x00, 0x00, 0x00, 0x00, 0xA1, // identifier
     0x12, 0x00, 0x00, 0x00, 0x00, 0x00, 0x00, 0xA2, // ip
@@ -55,7 +55,7 @@ fn plain() -> Sample
     }
 }
 
-fn written(layout: Layout, sample: &Sample) -> Result<Buffer, Fail> {
+pub(crate) fn written(layout: Layout, sample: &Sample) -> Result<Buffer, Fail> {
     if !layout.fits(sample) {
         return Err("the layout does not fit".into());
     }

@@ -1,4 +1,4 @@
-use Rattle.std.proofs.Common.{arith, rules, sym, ap, ◌∙◌, ◌+◌, ◌*◌}
+use Rattle.std.proofs.Common.{rules, sym, ap, ◌∙◌, ◌+◌, ◌*◌}
 use Rattle.std.proofs.lemmas.Result.{err_from_is_err_and}
 use Rattle.perf_sample.proofs.BranchLaws.{nr_cut, count_wrong, nr_wrong}
 use Rattle.perf_sample.proofs.branch.read_nr.Goals as goal

@@ -1,0 +1,412 @@
+ghost use Rattle.std.specs.Prelude.{◌<◌, None};
+
+use super::*;
+use crate::tests::{EVERY_FIELD, ONE_CALL, written};
+use ctr_port::{Got, MemSource, Source};
+use std::alloc::Global;
+use std::process::Abort;
+use std::test::*;
+
+// A sample of which the byte at a place is replaced, and so many bytes are there: the fault that a reader answers.
+type Wrong = (usize, u8, usize, SampleFault);
+
+// A sample of which so many bytes are there.
+type Cut = (usize, SampleFault);
+
+const WRONG_IN_ONE_CALL: [Wrong; 15] = [
+    (0, 1, 56, SampleFault::Kind), // PERF_RECORD_MMAP
+    (3, 1, 56, SampleFault::Kind),
+    (6, 0x40, 56, SampleFault::Size), // 64: no sample of the layout has this size
+    (6, 0x50, 56, SampleFault::Size), // 80: the size of two branches, and there is one
+    (6, 0x20, 56, SampleFault::Size), // 32: the size of none
+    (6, 0x08, 56, SampleFault::Size), // 8: less than the fields have
+    (7, 0x18, 56, SampleFault::Size), // 6200: 32 + 24·257
+    (25, 1, 56, SampleFault::Count), // nr 257, whose size would be wrong too
+    (31, 0x80, 56, SampleFault::Count), // nr 2^63 + 1
+    (24, 2, 56, SampleFault::Size), // nr 2
+    (24, 0, 56, SampleFault::Size), // nr 0
+    (52, 2, 56, SampleFault::FlagReserved(0)), // bit 33
+    (55, 0x80, 56, SampleFault::FlagReserved(0)), // bit 63
+    (6, 0x40, 7, SampleFault::Header), // the input ends before the size is looked at
+    (52, 2, 55, SampleFault::Short(Place::Flags(0))), // nor the flags
+];
+
+const CUTS_IN_ONE_CALL: [Cut; 6] = [
+    (1, SampleFault::Header),
+    (7, SampleFault::Header),
+    (32, SampleFault::Short(Place::From(0))),
+    (47, SampleFault::Short(Place::To(0))),
+    (48, SampleFault::Short(Place::Flags(0))),
+    (55, SampleFault::Short(Place::Flags(0))),
+];
+
+const WRONG_IN_EVERY_FIELD: [Wrong; 6] = [
+    (68, 1, 71, SampleFault::Short(Place::Cpu)),
+    (68, 1, 72, SampleFault::CpuReserved),
+    (71, 0x80, 112, SampleFault::CpuReserved),
+    (81, 1, 112, SampleFault::Count),
+    (80, 2, 112, SampleFault::Size),
+    (108, 3, 112, SampleFault::FlagReserved(0)), // bits 32 and 33
+];
+
+const CUTS_IN_EVERY_FIELD: [Cut; 26] = [
+    (8, SampleFault::Short(Place::Identifier)),
+    (15, SampleFault::Short(Place::Identifier)),
+    (16, SampleFault::Short(Place::Ip)),
+    (23, SampleFault::Short(Place::Ip)),
+    (24, SampleFault::Short(Place::Tid)),
+    (28, SampleFault::Short(Place::Tid)), // behind pid
+    (31, SampleFault::Short(Place::Tid)),
+    (32, SampleFault::Short(Place::Time)),
+    (39, SampleFault::Short(Place::Time)),
+    (40, SampleFault::Short(Place::Addr)),
+    (47, SampleFault::Short(Place::Addr)),
+    (48, SampleFault::Short(Place::Id)),
+    (55, SampleFault::Short(Place::Id)),
+    (56, SampleFault::Short(Place::StreamId)),
+    (63, SampleFault::Short(Place::StreamId)),
+    (64, SampleFault::Short(Place::Cpu)),
+    (71, SampleFault::Short(Place::Cpu)),
+    (72, SampleFault::Short(Place::Period)),
+    (79, SampleFault::Short(Place::Period)),
+    (80, SampleFault::Short(Place::Nr)),
+    (87, SampleFault::Short(Place::Nr)),
+    (88, SampleFault::Short(Place::From(0))),
+    (95, SampleFault::Short(Place::From(0))),
+    (96, SampleFault::Short(Place::To(0))),
+    (104, SampleFault::Short(Place::Flags(0))),
+    (111, SampleFault::Short(Place::Flags(0))),
+];
+
+// Reads all samples: how many there are, the fault after them if there is one, and the offset then.
+fn read_all(layout: Layout, source: &mut MemSource) -> (u32, Option<SampleFault>, u64) {
+    let mut reader = SampleReader::new(layout);
+    let mut samples = 0u32;
+    for _ in 0..100 {
+        match reader.next(source) {
+            Ok(next) => {
+                if next.is_none() {
+                    break;
+                }
+                samples = samples.saturating_add(1);
+            }
+            Err(fault) => return (samples, Some(fault), reader.offset()),
+        }
+    }
+    (samples, None, reader.offset())
+}
+
+// The whole sample comes first, and then these bytes.
+fn refused(
+    rt: &impl Abort,
+    alloc: Global,
+    layout: Layout,
+    whole: &[u8],
+    bytes: &[u8],
+    fault: SampleFault,
+) -> Result<(), Fail> {
+    let mut text = Vec::from_slice(alloc, whole)?;
+    text.extend_from_slice(bytes)?;
+    for piece in [1, 7, 4096] {
+        let mut source = MemSource::new(alloc, &text, &[piece], &[])?;
+        assert_eq!(rt;
+            read_all(layout, &mut source),
+            (1, Some(fault), whole.len() as u64),
+            "{bytes:?}"
+        );
+    }
+    Ok(())
+}
+
+fn each_is_refused(
+    rt: &impl Abort,
+    alloc: Global,
+    layout: u64,
+    whole: &[u8],
+    wrongs: &[Wrong],
+    cuts: &[Cut],
+) -> Result<(), Fail> {
+    let layout = Layout::of(layout).ok_or("a layout")?;
+    for (len, fault) in cuts {
+        let front = whole.get(..*len).ok_or("a front")?;
+        refused(rt, alloc, layout, whole, front, *fault)?;
+    }
+    for (at, byte, len, fault) in wrongs {
+        let mut bytes = Vec::from_slice(alloc, whole)?;
+        bytes.truncate(*len);
+        *bytes.get_mut(*at).ok_or("a byte")? = *byte;
+        refused(rt, alloc, layout, whole, &bytes, *fault)?;
+    }
+    Ok(())
+}
+
+#[test]
+fn each_break_of_one_call_has_its_fault(rt: HostRuntime) -> Result<(), Fail> {
+    each_is_refused(
+        &rt,
+        rt.alloc(),
+        0x803,
+        &ONE_CALL,
+        &WRONG_IN_ONE_CALL,
+        &CUTS_IN_ONE_CALL,
+    )
+}
+
+#[test]
+fn each_field_is_refused_where_it_breaks(rt: HostRuntime) -> Result<(), Fail> {
+    each_is_refused(
+        &rt,
+        rt.alloc(),
+        0x10BCF,
+        &EVERY_FIELD,
+        &WRONG_IN_EVERY_FIELD,
+        &CUTS_IN_EVERY_FIELD,
+    )
+}
+
+// A sample with a value of its own in each field that the layout has, and so many branches.
+fn filled(rt: &impl Abort, layout: Layout, branches: u16) -> Sample {
+    let mut sample = Sample {
+        misc: 0xA0A1,
+        identifier: there(layout, 0x10000, 0xB000_0000_0000_0001),
+        ip: there(layout, 0x1, 0xB100_0000_0000_0002),
+        pid: half_there(layout, 0x2, 0xC000_0003),
+        tid: half_there(layout, 0x2, 0xC100_0004),
+        time: there(layout, 0x4, 0xB200_0000_0000_0005),
+        addr: there(layout, 0x8, 0xB300_0000_0000_0006),
+        id: there(layout, 0x40, 0xB400_0000_0000_0007),
+        stream_id: there(layout, 0x200, 0xB500_0000_0000_0008),
+        cpu: half_there(layout, 0x80, 0xC200_0009),
+        period: there(layout, 0x100, 0xB600_0000_0000_000A),
+        branches: Branches::new(),
+    };
+    for number in 0..branches {
+        assert!(rt; sample.branches.items().len() < 256);
+        sample.branches.push(Branch {
+            from: 0xD000_0000_0000_0000 + number as u64,
+            to: 0xD100_0000_0000_0000 + number as u64,
+            flags: 0x1_FFFF_FFFF - number as u64,
+        });
+    }
+    sample
+}
+
+fn there(layout: Layout, bit: u64, value: u64) -> u64 {
+    if layout.bits() & bit == 0 { 0 } else { value }
+}
+
+fn half_there(layout: Layout, bit: u64, value: u32) -> u32 {
+    if layout.bits() & bit == 0 { 0 } else { value }
+}
+
+fn are_same(rt: &impl Abort, sample: &Sample, other: &Sample, layout: u64) {
+    assert_eq!(rt; sample.misc, other.misc, "at {layout}");
+    assert_eq!(rt;
+        [sample.pid, sample.tid, sample.cpu],
+        [other.pid, other.tid, other.cpu],
+        "at {layout}"
+    );
+    assert_eq!(rt;
+        [sample.identifier, sample.ip, sample.time, sample.addr],
+        [other.identifier, other.ip, other.time, other.addr],
+        "at {layout}"
+    );
+    assert_eq!(rt;
+        [sample.id, sample.stream_id, sample.period],
+        [other.id, other.stream_id, other.period],
+        "at {layout}"
+    );
+    assert_eq!(rt;
+        sample.branches.items(),
+        other.branches.items(),
+        "at {layout}"
+    );
+}
+
+// Samples with so many branches each are written one after another and read back, in pieces of this length.
+fn come_back(
+    rt: &impl Abort,
+    alloc: Global,
+    layout: Layout,
+    counts: &[u16],
+    piece: usize,
+) -> Result<(), Fail>
+    requires { 0 < piece }
+{
+    let mut bytes = Vec::new(alloc);
+    for count in counts {
+        let out = written(layout, &filled(rt, layout, *count))?;
+        bytes.extend_from_slice(out.as_slice())?;
+    }
+    let mut source = MemSource::new(alloc, &bytes, &[piece], &[])?;
+    let mut reader = SampleReader::new(layout);
+    for count in counts {
+        let next = reader.next(&mut source).ok().ok_or("no fault")?;
+        let sample = next.ok_or("a sample")?;
+        are_same(rt, &filled(rt, layout, *count), &sample, layout.bits());
+    }
+    let end = reader.next(&mut source).ok().ok_or("no fault")?;
+    assert!(rt; end.is_none(), "at {}", layout.bits());
+    Ok(())
+}
+
+#[test]
+fn samples_of_each_layout_come_back(rt: HostRuntime) -> Result<(), Fail> {
+    for bits in 0..0x2_0000u64 {
+        if let Some(layout) = Layout::of(bits) {
+            for piece in [1, 7, 4096] {
+                come_back(&rt, rt.alloc(), layout, &[2, 0, 1], piece)?;
+            }
+        }
+    }
+    Ok(())
+}
+
+#[test]
+fn two_hundred_and_fifty_six_branches_come_back(rt: HostRuntime) -> Result<(), Fail> {
+    for bits in [0x800, 0x803, 0x883, 0x904, 0x10BCF] {
+        let layout = Layout::of(bits).ok_or("a layout")?;
+        come_back(&rt, rt.alloc(), layout, &[256, 16, 256], 4096)?;
+    }
+    Ok(())
+}
+
+#[test]
+fn every_field_is_read_from_its_place(rt: HostRuntime) -> Result<(), Fail> {
+    let layout = Layout::of(0x10BCF).ok_or("a layout")?;
+    let mut source = MemSource::new(rt.alloc(), &EVERY_FIELD, &[], &[])?;
+    let next = SampleReader::new(layout).next(&mut source);
+    let sample = next.ok().ok_or("no fault")?.ok_or("a sample")?;
+    let mut branches = Branches::new();
+    branches.push(Branch {
+        from: 0xAB00_0000_0000_001B,
+        to: 0xAC00_0000_0000_001C,
+        flags: 0x1_0000_0001,
+    });
+    let wanted = Sample {
+        misc: 0x0102,
+        identifier: 0xA100_0000_0000_0011,
+        ip: 0xA200_0000_0000_0012,
+        pid: 0xA300_0013,
+        tid: 0xA400_0014,
+        time: 0xA500_0000_0000_0015,
+        addr: 0xA600_0000_0000_0016,
+        id: 0xA700_0000_0000_0017,
+        stream_id: 0xA800_0000_0000_0018,
+        cpu: 0xA900_0019,
+        period: 0xAA00_0000_0000_001A,
+        branches,
+    };
+    are_same(&rt, &wanted, &sample, 0x10BCF);
+    Ok(())
+}
+
+// The next answer, as how many branches the sample has, and the offset after it.
+fn step<S: Source>(
+    reader: &mut SampleReader,
+    source: &mut S,
+) -> (Result<Option<usize>, SampleFault>, u64) {
+    let answer = match reader.next(source) {
+        Ok(next) => Ok(next.map(|sample| sample.branches.items().len())),
+        Err(fault) => Err(fault),
+    };
+    (answer, reader.offset())
+}
+
+#[test]
+fn the_offset_is_where_the_sample_last_begun_stands(rt: HostRuntime) -> Result<(), Fail> {
+    let layout = Layout::of(0x803).ok_or("a layout")?;
+    let mut bytes = Vec::from_slice(rt.alloc(), &ONE_CALL)?;
+    bytes.extend_from_slice(&ONE_CALL)?;
+    let mut source = MemSource::new(rt.alloc(), &bytes, &[], &[])?;
+    let mut reader = SampleReader::new(layout);
+    assert_eq!(rt; reader.offset(), 0, "before the first call");
+    assert_eq!(rt; step(&mut reader, &mut source), (Ok(Some(1)), 0));
+    assert_eq!(rt; step(&mut reader, &mut source), (Ok(Some(1)), 56));
+    // No sample is begun where the input ends.
+    assert_eq!(rt; step(&mut reader, &mut source), (Ok(None), 56));
+    assert_eq!(rt; step(&mut reader, &mut source), (Ok(None), 56));
+    Ok(())
+}
+
+#[test]
+fn a_fault_is_told_again_without_a_read(rt: HostRuntime) -> Result<(), Fail> {
+    let layout = Layout::of(0x803).ok_or("a layout")?;
+    let mut bytes = Vec::from_slice(rt.alloc(), &ONE_CALL)?;
+    bytes.extend_from_slice(&ONE_CALL)?;
+    bytes[62] = 0x40; // size 64
+    // A sample is seven reads, and the header of the next one the eighth, number 7. Number 8 is to fail.
+    let mut source = MemSource::new(rt.alloc(), &bytes, &[], &[8])?;
+    let mut reader = SampleReader::new(layout);
+    assert_eq!(rt; step(&mut reader, &mut source), (Ok(Some(1)), 0));
+    assert_eq!(rt;
+        step(&mut reader, &mut source),
+        (Err(SampleFault::Size), 56)
+    );
+    assert_eq!(rt;
+        step(&mut reader, &mut source),
+        (Err(SampleFault::Size), 56)
+    );
+    let mut field = [0; 8];
+    assert_eq!(rt; source.read(&mut field), Got::Failed, "read number 8");
+    assert_eq!(rt; source.read(&mut field), Got::Bytes(8));
+    assert_eq!(rt; field, [0x08, 0, 0, 0x80, 0, 0, 0, 0], "ip of the second");
+    Ok(())
+}
+
+#[test]
+fn a_failing_read_is_told_and_told_again(rt: HostRuntime) -> Result<(), Fail> {
+    let layout = Layout::of(0x803).ok_or("a layout")?;
+    // 56 bytes in reads of one byte, and one more read that looks past the end.
+    for call in 0..57u64 {
+        let mut source = MemSource::new(rt.alloc(), &ONE_CALL, &[1], &[call])?;
+        let mut reader = SampleReader::new(layout);
+        let mut wanted = (Err(SampleFault::ReadFault), 0);
+        if call == 56 {
+            assert_eq!(rt; step(&mut reader, &mut source), (Ok(Some(1)), 0));
+            wanted.1 = 56;
+        }
+        assert_eq!(rt; step(&mut reader, &mut source), wanted, "at {call}");
+        assert_eq!(rt; step(&mut reader, &mut source), wanted, "at {call}");
+    }
+    Ok(())
+}
+
+// The smallest samples without an end: those of the layout 800 with no branches, in two fields.
+#[derive(Drop)]
+struct Endless {
+    inside: bool,
+}
+
+impl Source for Endless {
+    ghost left = { λ s. None };
+
+    ghost faults = { λ s. 0 };
+
+    fn read(&mut self, buf: &mut [u8]) -> Got {
+        let field = if self.inside {
+            [0; 8]
+        } else {
+            [9, 0, 0, 0, 0, 0, 16, 0]
+        };
+        self.inside = !self.inside;
+        let count = buf.len().min(8);
+        buf[..count].copy_from_slice(&field[..count]);
+        Got::Bytes(count)
+    }
+}
+
+#[test]
+fn two_to_the_24_samples_are_given(rt: HostRuntime) -> Result<(), Fail> {
+    let layout = Layout::of(0x800).ok_or("a layout")?;
+    let mut source = Endless { inside: false };
+    let mut reader = SampleReader::new(layout);
+    for _ in 0..0x100_0000u32 {
+        assert!(rt; reader.next(&mut source).is_ok());
+    }
+    assert_eq!(rt; reader.offset(), 0xFFF_FFF0);
+    let many = (Err(SampleFault::TooMany), 0x1000_0000);
+    assert_eq!(rt; step(&mut reader, &mut source), many);
+    assert_eq!(rt; step(&mut reader, &mut source), many);
+    Ok(())
+}
