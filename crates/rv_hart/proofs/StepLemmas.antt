@@ -82,9 +82,12 @@ within_if false at count size is = tt
 
 pub place_within : (size address count : ℕ) → IfSome (place_of size address count) (λ (p : ℕ). p + count ≤ size)
 place_within size address count =
-    let inside = nat_le (address - base + count) size in
-    within_if (nat_le base address && inside) (address - base) count size
-    (λ e. leb-true (address - base + count) size (and_parts (nat_le base address) inside e).1)
+    let above = nat_le base address in
+    let inside = nat_le (address + count) (base + size) in
+    within_if (above && inside) (address - base) count size
+    (λ e.
+      let both = and_parts above inside e in
+      omega (arith, leb-true base address both.0, leb-true (address + count) (base + size) both.1))
 
 pub of_store_at : (P : Effect → Type 0) (c : CoreState) (bytes : List ℕ) → Shapes P c bytes
     → (width : Width) (place : Option ℕ) → IfSome place (λ (p : ℕ). p + bytes_of width ≤ length bytes)

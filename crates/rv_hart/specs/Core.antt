@@ -20,8 +20,9 @@ fresh_core = record { x = replicate 32 0; pc = base; mode = M; csrs = fresh_regi
 abbrev pub plus : ℕ → ℕ → ℕ
 plus a b = (a + b) % 2 ^ 64
 
+-- the value of a register; x0 reads 0
 abbrev pub reg : CoreState → ℕ → ℕ
-reg c r = slice_index c.x r
+reg c r = cond (nat_eq r 0) 0 (slice_index c.x r)
 
 -- the core with a value written to a register; x0 ignores it
 abbrev pub put : CoreState → ℕ → ℕ → CoreState

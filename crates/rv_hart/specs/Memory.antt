@@ -16,7 +16,7 @@ memory_of image mem = image ++ replicate (mem - length image) 0
 -- the place of so many bytes from an address on, in a memory of this size; none where they aren't wholly in it
 abbrev pub place_of : ℕ → ℕ → ℕ → Option ℕ
 place_of size address count =
-    cond (nat_le base address && nat_le (address - base + count) size) (Some (address - base)) None
+    cond (nat_le base address && nat_le (address + count) (base + size)) (Some (address - base)) None
 
 -- the bytes of a load or store
 abbrev pub bytes_of : Width → ℕ
