@@ -1,5 +1,5 @@
 -- An access to a register that is answered: what its event makes of the record buffer is what the access left.
-use Rattle.std.proofs.Common.{◌≡◌, refl, ℕ, fold, Option, Some, None, Result, Ok}
+use Rattle.std.proofs.Common.{◌≡◌, refl, ℕ, fold, Option, Some, None, Ok}
 use Rattle.ctr_buffer.specs.declared.event.Event.{Event}
 use Rattle.ctr_buffer.specs.History.{after}
 use Rattle.ctr_buffer.specs.Stack.{Stack}

@@ -1,3 +1,5 @@
 mod AccessLemmas
 mod Lones
 mod Zeros
+mod StepLemmas
+mod TaskLemmas

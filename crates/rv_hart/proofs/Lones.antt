@@ -1,12 +1,12 @@
 -- The lone run of a task: its record buffer and its history, and its state as so many steps from the first.
-use Rattle.std.proofs.Common.{◌≡◌, refl, sym, ◌∙◌, ap, ℕ, zero, suc, ◌+◌, List, ◌++◌, fold}
+use Rattle.std.proofs.Common.{◌≡◌, refl, sym, ◌∙◌, ap, ℕ, zero, suc, fold}
 use Rattle.std.proofs.Math.Nat.{zero-add}
 use Rattle.std.proofs.lemmas.List.Sums.{fold-append}
 use Rattle.ctr_csrs.specs.declared.depth.Depth.TheVariants.{D16}
 use Rattle.ctr_buffer.specs.Stack.{Stack, empty}
 use Rattle.ctr_buffer.specs.History.{after, stack_of}
 use Rattle.ctr_buffer.specs.HistoryLaws.{depth_follows, pointer_follows, empty_is}
-use Rattle.rv_hart.specs.Step.{Live, next, events_of}
+use Rattle.rv_hart.specs.Step.{next, events_of}
 use Rattle.rv_hart.specs.Task.{Task, causes}
 use Rattle.rv_hart.specs.Lone.{Told, Tells, Agree, told_next, first_state, first_told, lone, advanced}
 

@@ -1,9 +1,8 @@
 -- What an instruction does to the registers and to memory, and how it goes on (RISC-V Unprivileged ISA, RV64I, M and
 -- Zifencei; Privileged Architecture for ECALL and the trap returns). CSR instructions and SCTRCLR stand in Step.
-use Rattle.std.specs.Prelude.{◌≡◌, IsTrue, ℕ, ◌-◌, ◌%◌, Bool, true, false, cond, nat_eq, List, length, Option, Some, None}
+use Rattle.std.specs.Prelude.{◌≡◌, IsTrue, ℕ, ◌*◌, ◌/◌, ◌%◌, Bool, true, false, cond, nat_eq, List, length, Option, Some, None}
 use Rattle.ctr_csrs.specs.declared.mode.Mode.{Mode}
 use Rattle.ctr_csrs.specs.declared.mode.Mode.TheVariants as modes
-use Rattle.guest_modes.specs.declared.returning.Ret.{Ret}
 use Rattle.guest_modes.specs.declared.returning.Ret.TheVariants as rets
 use Rattle.guest_modes.specs.declared.targets.Trap.TheVariants.{Exception}
 use Rattle.guest_modes.specs.Traps.{is_cause}
@@ -25,7 +24,8 @@ IsSound (Goes kind pc) = pc % 4 ≡ 0
 IsSound (Returns ret) = Unit {0}
 IsSound (Raises cause value) = IsTrue (is_cause (Exception cause))
 
--- the core, still at the instruction, and the memory after it, and how it goes on
+-- what an instruction leaves: the core, with the program counter and the mode of the instruction; the memory; and how it
+-- goes on
 pub record Effect : Type 0 where
   pub core : CoreState
   pub bytes : List ℕ
@@ -45,7 +45,7 @@ gives rd value c bytes = goes_on (put c rd value) bytes
 
 -- with bit 0 cleared
 abbrev pub even : ℕ → ℕ
-even n = n - n % 2
+even n = n / 2 * 2
 
 -- a transfer of this type to a target
 abbrev pub goes_to : Option XferType → ℕ → CoreState → List ℕ → Effect

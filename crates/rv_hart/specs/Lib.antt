@@ -6,3 +6,4 @@ pub mod Step
 pub mod State
 pub mod Task
 pub mod Lone
+pub mod StepLaws

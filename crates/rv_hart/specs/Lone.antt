@@ -45,7 +45,7 @@ pub record Tells (t : Told) : Type 0 where
 abbrev pub Agree : Told → Told → Type 0
 Agree a b = a.live ≡ b.live
 
--- the state after so many steps from any state, whose task had made so many before
+-- the state n steps after a state at which the task had made `before` steps
 abbrev pub advanced : Task → ℕ → ℕ → Live → Live
 advanced t before zero s = s
 advanced t before (suc n) s = next (causes t.irqs (before + n)) (advanced t before n s)

@@ -1,5 +1,5 @@
 -- What a transfer does to the control transfer unit (RISC-V Control Transfer Records 1.0).
-use Rattle.std.specs.Prelude.{ℕ, ◌+◌, Bool, true, List, [], ◌∷◌, fold}
+use Rattle.std.specs.Prelude.{◌+◌, Bool, true, List, [], ◌∷◌, fold}
 use Rattle.xfer_class.specs.Types.{code_of}
 use Rattle.ctr_rules.specs.declared.transfer.Transfer.{Transfer}
 use Rattle.ctr_rules.specs.declared.transfer.Record.{Record}

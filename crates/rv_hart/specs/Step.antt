@@ -1,6 +1,6 @@
 -- One step of a hart (RISC-V Privileged Architecture; Control Transfer Records 1.0): it takes an interrupt or executes one
 -- instruction.
-use Rattle.std.specs.Prelude.{ℕ, ◌-◌, ◌^◌, Bool, true, false, cond, nat_eq, List, [], ◌∷◌, fold, length, Option, Some, None, Result, Ok, Err, bit_and, bit_or}
+use Rattle.std.specs.Prelude.{ℕ, ◌-◌, ◌^◌, Bool, false, cond, nat_eq, List, [], ◌∷◌, fold, length, Option, Some, None, Result, Ok, Err, bit_and, bit_or}
 use Rattle.ctr_csrs.specs.declared.mode.Mode.{Mode}
 use Rattle.ctr_csrs.specs.declared.mode.Mode.TheVariants as modes
 use Rattle.ctr_buffer.specs.declared.event.Event.{Event}
@@ -9,7 +9,6 @@ use Rattle.ctr_buffer.specs.History.{after}
 use Rattle.ctr_rules.specs.declared.transfer.Transfer.{Transfer}
 use Rattle.guest_modes.specs.declared.gating.CsrFault.{CsrFault}
 use Rattle.guest_modes.specs.declared.gating.CsrFault.TheVariants.{Illegal, Virtual}
-use Rattle.guest_modes.specs.declared.registers.Priv.{Priv}
 use Rattle.guest_modes.specs.declared.returning.Ret.{Ret}
 use Rattle.guest_modes.specs.declared.targets.Trap.{Trap}
 use Rattle.guest_modes.specs.declared.targets.Trap.TheVariants.{Exception, Interrupt}
@@ -44,14 +43,14 @@ pub record Live : Type 0 where
   pub unit : UnitState
   pub mem : List ℕ
 
--- what a step leaves: the core; the unit, of which the record buffer doesn't count here; and the events of the record
--- buffer, the oldest first
+-- what a step leaves: the core; the unit, but for its record buffer, which is read nowhere; and the events of the record
+-- buffer, the oldest first, which say what becomes of it
 pub record Step : Type 0 where
   pub core : CoreState
   pub unit : UnitState
   pub events : List Event
 
--- a transfer, after which the core is this one: under the controls as they stand before it
+-- a step that ends in a transfer, with the core as it is then: the transfer is judged by the unit as it was before the step
 abbrev pub carried : Transfer → CoreState → UnitState → Step
 carried t core u =
     let a = act_in t u in

@@ -1,6 +1,8 @@
 -- A task: its image and memory, the depth and controls that its records begin with, and its interrupts.
-use Rattle.std.specs.Prelude.{ℕ, ◌^◌, List, [], ◌∷◌, cond, nat_eq, bit_or}
+use Rattle.std.specs.Prelude.{ℕ, ◌^◌, IsTrue, List, [], ◌∷◌, cond, nat_eq, bit_or}
 use Rattle.ctr_csrs.specs.declared.depth.Depth.{Depth}
+use Rattle.guest_modes.specs.declared.targets.Trap.TheVariants.{Interrupt}
+use Rattle.guest_modes.specs.Traps.{is_cause}
 
 -- an interrupt that becomes pending when the task has made so many steps of its own
 pub record Irq : Type 0 where
@@ -21,3 +23,8 @@ pub record Task : Type 0 where
 abbrev pub causes : List Irq → ℕ → ℕ
 causes [] n = 0
 causes (q ∷ qs) n = cond (nat_eq q.step n) (bit_or (2 ^ q.cause) (causes qs n)) (causes qs n)
+
+-- all of them have the number of an interrupt
+abbrev pub AreInterrupts : List Irq → Type 0
+AreInterrupts [] = Unit {0}
+AreInterrupts (q ∷ qs) = IsTrue (is_cause (Interrupt q.cause)) × AreInterrupts qs

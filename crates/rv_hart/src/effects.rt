@@ -150,7 +150,7 @@ pub(crate) fn execute(core: &mut Core, mem: &mut TaskMem, instr: Instr, word: u3
         }
         Instr::Jalr { rd, rs1, off } => {
             let sum = core.reg(rs1).wrapping_add(off);
-            jump(core, class_of(instr, false), rd, sum - sum % 2)
+            jump(core, class_of(instr, false), rd, sum / 2 * 2)
         }
         Instr::Branch {
             cond,

@@ -90,6 +90,7 @@ fn are_zero<B: CtrStore>(store: &B) -> bool
     ensures yes { OnTrue result ((B.means store.now).slots ≡ replicate 16 zero_entry) }
     ensures no { OnFalse result ((B.means store.now).slots ≡ replicate 16 zero_entry → ⊥) }
 {
+    // For its clause: there are as many entries as the depth says.
     let _shape = store.depth();
     for i in 0..16u16 {
         if !is_zero(store.slot(i)) {

@@ -109,6 +109,7 @@ impl<B: CtrStore> Hart<B> {
         requires { IsTrue (is_cause (Trap.Exception cause)) }
         ensures { self.new ≡ ran self.old (trapped (Trap.Exception cause) value self.old.core self.old.unit) }
     {
+        // For its clause: the modes of an exception are the same, or a pair of the table of traps.
         let _target = trap_target(&self.core.csrs, self.core.mode, Trap::Exception(cause));
         self.trap(Trap::Exception(cause), value);
     }
@@ -316,8 +317,9 @@ impl<B: CtrStore> Hart<B> {
     }
 
     /// One step of the hart: the interrupts of `pending` become pending, bit i being interrupt i, and then it takes an
-    /// interrupt or executes one instruction (RISC-V Unprivileged and Privileged Architecture, Control Transfer Records
-    /// 1.0). `pending` has bits of 0x2EEE alone, and `steps` is below 2^63.
+    /// interrupt or executes one instruction (RISC-V Unprivileged ISA; Privileged Architecture, "Machine Interrupt
+    /// Registers" and "Machine Trap Delegation Registers"; Control Transfer Records 1.0). `pending` has bits of 0x2EEE
+    /// alone, the interrupts 1, 2, 3, 5, 6, 7, 9, 10, 11 and 13, and `steps` is below 2^63.
     pub fn step(&mut self, mem: &mut TaskMem, pending: u64)
         requires pending { IsWithin 0x2EEE pending }
         requires steps { self.old.steps < 2 ^ 63 }
@@ -359,6 +361,7 @@ impl<B: CtrStore> Hart<B> {
         self.steps
     }
 
+    /// The core of the hart.
     pub fn core(&self) -> &Core
         ensures { result.now ≡ self.now.core }
     {

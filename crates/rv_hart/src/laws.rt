@@ -1,10 +1,27 @@
-ghost use Rattle.std.specs.Prelude.{◌≡◌, ℕ};
+ghost use Rattle.std.specs.Prelude.{◌≡◌, ℕ, List};
 ghost use Rattle.rv_hart.specs.Step.{next, events_of};
-ghost use Rattle.rv_hart.specs.Task.{Task};
+ghost use Rattle.rv_hart.specs.StepLaws.{ExceptionsWriteNothing, MemoryKeepsItsSize, NoStepChangesX0, AtMostOneEvent};
+ghost use Rattle.guest_modes.specs.Words.{IsWithin};
+ghost use Rattle.indirect_regs.specs.Unit.{IsUnit};
+ghost use Rattle.rv_hart.specs.Task.{Task, Irq, AreInterrupts, causes};
 ghost use Rattle.rv_hart.specs.Lone.{Told, Tells, Agree, told_next, lone, first_state, advanced};
+
+/// Laws of one step, of every state, instruction and number of interrupts: a proof and no work.
+pub fn step_laws()
+    ensures exceptions { ExceptionsWriteNothing }
+    ensures size { MemoryKeepsItsSize }
+    ensures zero { NoStepChangesX0 }
+    ensures events { AtMostOneEvent }
+{}
 
 /// Laws of the lone run of a task, of every task and number of steps: a proof and no work.
 pub fn lone_run_laws()
+    // The unit that a run begins with keeps to the facts of units: its controls are words that the registers can hold.
+    ensures first { (t : Task) → IsUnit (first_state t).unit }
+
+    // What becomes pending at a step of the run is what a step of a hart takes.
+    ensures pending { (irqs : List Irq) (n : ℕ) → AreInterrupts irqs → IsWithin 0x2EEE (causes irqs n) }
+
     // The record buffer of a lone run is what its history leaves: the depth, the list, and the pointer, which is counted.
     ensures tells { (t : Task) (n : ℕ) → Tells (lone t n) }
 

@@ -8,7 +8,7 @@
 
 pub use hart::Hart;
 pub use harts::{Harts, Store};
-pub use laws::lone_run_laws;
+pub use laws::{lone_run_laws, step_laws};
 pub use memory::TaskMem;
 pub use processor::Core;
 

@@ -19,7 +19,7 @@ fn entry(kept: Record) -> Slot
     }
 }
 
-/// Records a transfer, or does to the unit what else it does.
+/// Does to the unit what a transfer does under the controls and FROZEN that the unit holds.
 pub(crate) fn carry<B: CtrStore>(unit: &mut CtrUnit<B>, transfer: Transfer)
     requires source { transfer.source % 2 ≡ 0 }
     requires target { transfer.target % 2 ≡ 0 }

@@ -1,4 +1,4 @@
-use Rattle.rv_hart.proofs.Zeros.{one_more, other_one, all_same}
+use Rattle.rv_hart.proofs.Zeros.{other_one}
 use Rattle.rv_hart.proofs.freshness.are_clear.Goals as goal
 
 pub returns-then-not-is_null-clause-no : goal.returns-then-not-is_null-clause-no

@@ -1,5 +1,12 @@
 use Rattle.rv_hart.proofs.Lones.{lone_tells, next_tells, same_next, same_events, lone_state}
+use Rattle.rv_hart.proofs.TaskLemmas.{first_unit, causes_within}
 use Rattle.rv_hart.proofs.laws.lone_run_laws.Goals as goal
+
+pub returns-clause-first : goal.returns-clause-first
+returns-clause-first c = first_unit
+
+pub returns-clause-pending : goal.returns-clause-pending
+returns-clause-pending c = causes_within
 
 pub returns-clause-tells : goal.returns-clause-tells
 returns-clause-tells c = lone_tells

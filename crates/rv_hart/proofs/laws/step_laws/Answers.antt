@@ -1,0 +1,14 @@
+use Rattle.rv_hart.proofs.StepLemmas.{exceptions_write_nothing, memory_keeps_its_size, no_step_changes_x0, at_most_one_event}
+use Rattle.rv_hart.proofs.laws.step_laws.Goals as goal
+
+pub returns-clause-exceptions : goal.returns-clause-exceptions
+returns-clause-exceptions c = exceptions_write_nothing
+
+pub returns-clause-size : goal.returns-clause-size
+returns-clause-size c = memory_keeps_its_size
+
+pub returns-clause-zero : goal.returns-clause-zero
+returns-clause-zero c = no_step_changes_x0
+
+pub returns-clause-events : goal.returns-clause-events
+returns-clause-events c = at_most_one_event
