@@ -14,7 +14,7 @@ use Rattle.sched_text.specs.declared.faults.Reason.TheVariants as reason
 use Rattle.sched_text.specs.declared.faults.LineFault.{LineFault}
 
 -- after a refused line each further one is refused alike
-stays : (m n : ℕ) (t : List ℕ) (f : LineFault) → n ≤ m → after n t ≡ Err f → after m t ≡ Err f
+pub stays : (m n : ℕ) (t : List ℕ) (f : LineFault) → n ≤ m → after n t ≡ Err f → after m t ≡ Err f
 unfolding after
 stays zero n t f within e = let none : n ≡ 0 = omega (arith, within) in rw none at e
 stays (suc m) n t f within e =
@@ -23,11 +23,11 @@ stays (suc m) n t f within e =
       | inr other ↦ let less : n ≤ m = omega (arith, within, other) in ap (next_line (suc m)) (stays m n t f less e)
     ]
 
-after_next : (n : ℕ) (t : List ℕ) (x : Progress × List ℕ) → after n t ≡ Ok x → after (suc n) t ≡ header_cut (suc n) x.0 (line_at x.1)
+pub after_next : (n : ℕ) (t : List ℕ) (x : Progress × List ℕ) → after n t ≡ Ok x → after (suc n) t ≡ header_cut (suc n) x.0 (line_at x.1)
 unfolding after
 after_next n t x e = ap (next_line (suc n)) e
 
-never : {A : Type 0} (x : Progress × List ℕ) (f : LineFault) (r : Result (Progress × List ℕ) LineFault) → r ≡ Ok x → r ≡ Err f → A
+pub never : {A : Type 0} (x : Progress × List ℕ) (f : LineFault) (r : Result (Progress × List ℕ) LineFault) → r ≡ Ok x → r ≡ Err f → A
 never x f r e g = absurd (cc)
 
 nothing_at : (at : Place) (q : Progress) (w : List ℕ) → is_done at ≡ true → step_at at q w ≡ Err reason.NotWord
@@ -53,7 +53,7 @@ same_read : (x y : Progress × List ℕ) (r : Result (Progress × List ℕ) Line
 same_read x y r e g = cc
 
 -- a header that is refused isn't whole
-not_both : (t : List ℕ) (f : LineFault) (m : ℕ) (q : Progress) (s : List ℕ) → HeaderBreak t f → HasHeader t m q s → ⊥
+pub not_both : (t : List ℕ) (f : LineFault) (m : ℕ) (q : Progress) (s : List ℕ) → HeaderBreak t f → HasHeader t m q s → ⊥
 not_both t f m q s b h =
     elim (cases_lt b.before m) [
       | inl less ↦ never (q, s) f (after m t) h.reads (stays m (suc b.before) t f (omega (arith, less)) (after_next b.before t (b.progress, b.rest) b.begun.reads ∙ rw (← add-one b.before) b.refused))
@@ -73,14 +73,14 @@ one_header t m n p q r s a b less =
     let stop = stops_at (suc m) (line_at r) p a.whole in
     never (q, s) stop.0 (after n t) b.reads (stays n (suc m) t stop.0 (omega (arith, less)) (after_next m t (p, r) a.reads ∙ stop.1))
 
-same_lines : (t : List ℕ) (m n : ℕ) (p q : Progress) (r s : List ℕ) → HasHeader t m p r → HasHeader t n q s → m ≡ n
+pub same_lines : (t : List ℕ) (m n : ℕ) (p q : Progress) (r s : List ℕ) → HasHeader t m p r → HasHeader t n q s → m ≡ n
 same_lines t m n p q r s a b =
     elim (cases_eq m n) [
       | inl e ↦ e
       | inr other ↦ elim (cases_lt m n) [ inl less ↦ absurd (one_header t m n p q r s a b less) | inr more ↦ absurd (one_header t n m q p s r b a (omega (arith, more, other))) ]
     ]
 
-same_header : (t : List ℕ) (m n : ℕ) (p q : Progress) (r s : List ℕ) → HasHeader t m p r → HasHeader t n q s → ◌≡◌ {A = Progress × List ℕ} (p, r) (q, s)
+pub same_header : (t : List ℕ) (m n : ℕ) (p q : Progress) (r s : List ℕ) → HasHeader t m p r → HasHeader t n q s → ◌≡◌ {A = Progress × List ℕ} (p, r) (q, s)
 same_header t m n p q r s a b = same_read (p, r) (q, s) (after m t) a.reads (rw (same_lines t m n p q r s a b) b.reads)
 
 -- two refused lines of a header are one
@@ -103,7 +103,7 @@ header_once t f g a b =
     ]
 
 -- the same of commands
-stays_so : (m n base : ℕ) (t : List ℕ) (f : LineFault) → n ≤ m → commands_after n base t ≡ Err f → commands_after m base t ≡ Err f
+pub stays_so : (m n base : ℕ) (t : List ℕ) (f : LineFault) → n ≤ m → commands_after n base t ≡ Err f → commands_after m base t ≡ Err f
 unfolding commands_after
 stays_so zero n base t f within e = let none : n ≡ 0 = omega (arith, within) in rw none at e
 stays_so (suc m) n base t f within e =
@@ -112,20 +112,20 @@ stays_so (suc m) n base t f within e =
       | inr other ↦ let less : n ≤ m = omega (arith, within, other) in ap (next_command (base + suc m) m) (stays_so m n base t f less e)
     ]
 
-command_refused : (n base : ℕ) (t : List ℕ) (x : List Command × List ℕ) (f : LineFault) → commands_after n base t ≡ Ok x → command_at (base + (n + 1)) n x.1 ≡ Err f → commands_after (suc n) base t ≡ Err f
+pub command_refused : (n base : ℕ) (t : List ℕ) (x : List Command × List ℕ) (f : LineFault) → commands_after n base t ≡ Ok x → command_at (base + (n + 1)) n x.1 ≡ Err f → commands_after (suc n) base t ≡ Err f
 unfolding commands_after
 command_refused n base t x f e r =
     let there : command_at (base + suc n) n x.1 ≡ Err f = rw (← add-one n) r in
     ap (next_command (base + suc n) n) e ∙ ap (joined x.0) there
 
-never_so : {A : Type 0} (x : List Command × List ℕ) (f : LineFault) (r : Result (List Command × List ℕ) LineFault) → r ≡ Ok x → r ≡ Err f → A
+pub never_so : {A : Type 0} (x : List Command × List ℕ) (f : LineFault) (r : Result (List Command × List ℕ) LineFault) → r ≡ Ok x → r ≡ Err f → A
 never_so x f r e g = absurd (cc)
 
-same_commands : (x y : List Command × List ℕ) (r : Result (List Command × List ℕ) LineFault) → r ≡ Ok x → r ≡ Ok y → x ≡ y
+pub same_commands : (x y : List Command × List ℕ) (r : Result (List Command × List ℕ) LineFault) → r ≡ Ok x → r ≡ Ok y → x ≡ y
 same_commands x y r e g = cc
 
 -- a command that is refused, in the place of one that isn't
-sooner : (n m base : ℕ) (t : List ℕ) (x y : List Command × List ℕ) (f : LineFault) → commands_after n base t ≡ Ok x → command_at (base + (n + 1)) n x.1 ≡ Err f → commands_after m base t ≡ Ok y → n < m → ⊥
+pub sooner : (n m base : ℕ) (t : List ℕ) (x y : List Command × List ℕ) (f : LineFault) → commands_after n base t ≡ Ok x → command_at (base + (n + 1)) n x.1 ≡ Err f → commands_after m base t ≡ Ok y → n < m → ⊥
 sooner n m base t x y f a r b less = never_so y f (commands_after m base t) b (stays_so m (suc n) base t f (omega (arith, less)) (command_refused n base t x f a r))
 
 alike : (n m base : ℕ) (x y : List Command × List ℕ) (f g : LineFault) → n ≡ m → x ≡ y → command_at (base + (n + 1)) n x.1 ≡ Err f → command_at (base + (m + 1)) m y.1 ≡ Err g → f ≡ g
@@ -142,7 +142,7 @@ commands_once n m base t x y f g a r b s =
     ]
 
 -- what follows the images, by the header
-abbrev behind_images : Progress × List ℕ → List ℕ
+abbrev pub behind_images : Progress × List ℕ → List ℕ
 behind_images h = drop (images_len h.0) h.1
 
 commands_break_once : (t : List ℕ) (f g : LineFault) → CommandsBreak t f → CommandsBreak t g → f ≡ g
@@ -161,7 +161,7 @@ images_once t f g a b =
     a.fault ∙ ap (λ (n : ℕ). record { line = n; reason = reason.Cut }) lines ∙ sym b.fault
 
 -- images that are cut short aren't whole
-images_or_commands : (t : List ℕ) (f g : LineFault) → ImagesBreak t f → CommandsBreak t g → ⊥
+pub images_or_commands : (t : List ℕ) (f g : LineFault) → ImagesBreak t f → CommandsBreak t g → ⊥
 images_or_commands t f g a b =
     let header = same_header t a.lines b.lines a.progress b.begun.progress a.rest b.begun.rest a.header b.begun.header in
     let short : length b.begun.rest < images_len b.begun.progress = subst (λ (h : Progress × List ℕ). length h.1 < images_len h.0) header a.short in

@@ -6,3 +6,4 @@ pub mod CommandLaws
 pub mod HeadLaws
 pub mod ImageLaws
 pub mod BreakLaws
+pub mod WholeLaws

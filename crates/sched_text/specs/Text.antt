@@ -53,3 +53,9 @@ pub record IsWhole (text : List ℕ) (commands : List Command) : Type 0 where
   pub behind : List ℕ
   pub has : HasCommands text lines count commands behind
   pub ends : has_end commands ≡ true
+
+-- the text is whole or broken, and not both; and a whole text has one list of commands
+pub record WholeOrBroken (text : List ℕ) : Type 0 where
+  pub some : ((commands : List Command) × IsWhole text commands) ⊎ ((f : LineFault) × TextBreak text f)
+  pub not_both : (commands : List Command) (f : LineFault) → IsWhole text commands → TextBreak text f → ⊥
+  pub one : (first second : List Command) → IsWhole text first → IsWhole text second → first ≡ second

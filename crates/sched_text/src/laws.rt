@@ -1,7 +1,7 @@
 //! Laws of the schedule text, as functions without a body: whoever calls one has its clause.
 
 ghost use Rattle.std.specs.Prelude.{◌≡◌};
-ghost use Rattle.sched_text.specs.Text.{TextBreak};
+ghost use Rattle.sched_text.specs.Text.{TextBreak, WholeOrBroken};
 
 use crate::faults::LineFault;
 
@@ -10,4 +10,9 @@ pub fn one_break(text: &[u8], first: LineFault, second: LineFault)
     requires first { TextBreak text.now first }
     requires second { TextBreak text.now second }
     ensures { first ≡ second }
+{}
+
+/// A text is whole or has a break, and not both. The commands of a whole text, up to `end`, are determined by it.
+pub fn whole_or_broken(text: &[u8])
+    ensures { WholeOrBroken text.now }
 {}
