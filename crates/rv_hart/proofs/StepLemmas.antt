@@ -86,8 +86,8 @@ place_within size address count =
     let inside = nat_le (address + count) (base + size) in
     within_if (above && inside) (address - base) count size
     (λ e.
-      let both = and_parts above inside e in
-      omega (arith, leb-true base address both.0, leb-true (address + count) (base + size) both.1))
+    let both = and_parts above inside e in
+    omega (arith, leb-true base address both.0, leb-true (address + count) (base + size) both.1))
 
 pub of_store_at : (P : Effect → Type 0) (c : CoreState) (bytes : List ℕ) → Shapes P c bytes
     → (width : Width) (place : Option ℕ) → IfSome place (λ (p : ℕ). p + bytes_of width ≤ length bytes)
