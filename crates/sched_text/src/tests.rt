@@ -10,6 +10,10 @@ const HEAD: &str = "ctr-schedule 1\nharts 1\nlayout 803\ntask 4 8 0 4 0 0\n";
 
 const REST: &str = "images\nabcdrun 0 0 1\nsample 0\nend\n";
 
+// Both together: 85 bytes, whose lines end with bytes 15, 23, 34, 51, 58, 72, 81 and 85; the image ends with byte 62.
+const SCHEDULE: &str =
+    "ctr-schedule 1\nharts 1\nlayout 803\ntask 4 8 0 4 0 0\nimages\nabcdrun 0 0 1\nsample 0\nend\n";
+
 fn widened(fault: CommandFault) -> ScheduleFault {
     match fault {
         CommandFault::Line(line) => ScheduleFault::Line(line),
@@ -321,12 +325,35 @@ fn there_are_64_tasks_and_1024_irq_lines_of_each_at_most(rt: HostRuntime) -> Res
 }
 
 #[test]
+fn a_schedule_cut_anywhere_is_refused_at_its_line(rt: HostRuntime) -> Result<(), Fail> {
+    let text = SCHEDULE.as_bytes();
+    for (line, first, end) in [
+        (1, 0, 15),
+        (2, 15, 23),
+        (3, 23, 34),
+        (4, 34, 51),
+        (5, 51, 62), // `images` and the image
+        (6, 62, 72),
+        (7, 72, 81),
+        (8, 81, 85),
+    ] {
+        for bytes in first..end {
+            let front = text.get(..bytes).ok_or("a front")?;
+            let mut source = MemSource::new(rt.alloc(), front, &[7], &[])?;
+            let (_, fault) = read_all(rt.alloc(), &mut source);
+            assert_eq!(rt; fault, refused(line, Reason::Cut), "after {bytes} bytes");
+        }
+    }
+    let mut source = MemSource::new(rt.alloc(), text, &[7], &[])?;
+    assert_eq!(rt; read_all(rt.alloc(), &mut source), (2, None));
+    Ok(())
+}
+
+#[test]
 fn a_failing_read_is_told_and_told_again(rt: HostRuntime) -> Result<(), Fail> {
-    let text =
-        "ctr-schedule 1\nharts 1\nlayout 803\ntask 4 8 0 4 0 0\nimages\nabcdrun 0 0 1\nsample 0\nend\n";
     // 85 bytes in reads of one byte, and one more read that looks past the end.
     for call in 0..86u64 {
-        let mut source = MemSource::new(rt.alloc(), text.as_bytes(), &[1], &[call])?;
+        let mut source = MemSource::new(rt.alloc(), SCHEDULE.as_bytes(), &[1], &[call])?;
         let (commands, fault) = read_all(rt.alloc(), &mut source);
         assert_eq!(rt; fault, Some(ScheduleFault::ReadFault), "at {call}");
         // The line `run` ends with byte 72, `sample` with byte 81.
@@ -339,7 +366,7 @@ fn a_failing_read_is_told_and_told_again(rt: HostRuntime) -> Result<(), Fail> {
         };
         assert_eq!(rt; commands, whole, "at {call}");
     }
-    let mut source = MemSource::new(rt.alloc(), text.as_bytes(), &[1], &[86])?;
+    let mut source = MemSource::new(rt.alloc(), SCHEDULE.as_bytes(), &[1], &[86])?;
     assert_eq!(rt; read_all(rt.alloc(), &mut source), (2, None));
     let mut source = MemSource::new(rt.alloc(), b"x\n", &[], &[])?;
     let mut reader = ScheduleReader::new();
