@@ -105,8 +105,8 @@ end_shows (Err (fault.Line f)) text text' text'' line count w hand c given row e
     (λ t t' t'' e stops. ends line count t t' w c e row end ∙ stops)
 end_shows (Err fault.ReadFault) text text' text'' line count w hand c given row end finished = (
   open_nothing hand finished.0,
-  of_then text text' text'' (Begins w) (λ t t'. t' ≡ t) (λ t t'. (t' ≡ t) ⊎ EndsAt (line_at t) t') given finished.1
-      (λ t t' t'' e same. inr (subst (λ (x : LineCut). EndsAt x t'') (sym e) (row ∙ ap Ok (is_end_is c end), sym same))),
+  of_then text text' text'' (Begins w) (λ t t'. t' ≡ t) (λ t t'. (t' ≡ t) ⊎ ((hand ≡ []) × EndsAt (line_at t) t')) given finished.1
+      (λ t t' t'' e same. inr (finished.0, subst (λ (x : LineCut). EndsAt x t'') (sym e) (row ∙ ap Ok (is_end_is c end), sym same))),
 )
 
 cut_not_open : (c : LineCut) → cut_needs_read c ≡ false → is_open c ≡ false

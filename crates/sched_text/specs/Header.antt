@@ -1,5 +1,5 @@
 -- The lines up to `images`, one by one.
-use Rattle.std.specs.Prelude.{◌≡◌, ℕ, zero, suc, ◌+◌, ◌<◌, ◌≤◌, if◌then◌else◌, nat_lt, Bool, true, false, List, [], ◌∷◌, ◌++◌, length, Option, Some, None, Result, Ok, Err, ⊤}
+use Rattle.std.specs.Prelude.{◌≡◌, ℕ, zero, suc, ◌+◌, ◌<◌, ◌≤◌, if◌then◌else◌, nat_lt, Bool, true, false, List, [], ◌∷◌, ◌++◌, length, Option, Some, None, Result, Ok, Err, codes, ⊤}
 use Rattle.std.specs.List.{All}
 use Rattle.perf_sample.specs.Layout.{IsLayout}
 use Rattle.sched_text.specs.Lines.{LineCut, Line, Long, Open, line_at}
@@ -11,7 +11,6 @@ use Rattle.sched_text.specs.declared.heading.Progress.{Progress}
 use Rattle.sched_text.specs.declared.heading.StepFault.{StepFault}
 use Rattle.sched_text.specs.declared.heading.StepFault.TheVariants as fault
 use Rattle.sched_text.specs.declared.rows.IrqWords.{IrqWords}
-use Rattle.sched_text.specs.declared.rows.TheConstants.{TASK, IRQ, IMAGES}
 use Rattle.sched_text.specs.declared.schedule.IrqLine.{IrqLine}
 use Rattle.sched_text.specs.declared.faults.Reason.{Reason}
 use Rattle.sched_text.specs.declared.faults.Reason.TheVariants as reason
@@ -48,14 +47,14 @@ irq_step p line = then_with (irq_of line) (λ irq.
     if nat_lt irq.task (length p.tasks) then irq_judged p (irq_line irq) (irq_refusal (mark_of irq.task p.irqs) (irq_line irq)) else Err reason.NoTask)
 
 abbrev pub images_step : Progress → List ℕ → Result Progress Reason
-images_step p line = if has_form line IMAGES.now 1 then Ok (record p { place = place.Images }) else Err reason.NotWord
+images_step p line = if has_form line (codes "images") 1 then Ok (record p { place = place.Images }) else Err reason.NotWord
 
 -- after an irq line only a further one or `images` may stand
 abbrev pub after_irq_step : Progress → List ℕ → Result Progress Reason
-after_irq_step p line = if has_form line IRQ.now 4 then irq_step p line else images_step p line
+after_irq_step p line = if has_form line (codes "irq") 4 then irq_step p line else images_step p line
 
 abbrev pub after_task_step : Progress → List ℕ → Result Progress Reason
-after_task_step p line = if has_form line TASK.now 7 then task_step p line else after_irq_step p line
+after_task_step p line = if has_form line (codes "task") 7 then task_step p line else after_irq_step p line
 
 -- one more line
 abbrev pub step_at : Place → Progress → List ℕ → Result Progress Reason

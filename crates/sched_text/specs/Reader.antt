@@ -31,11 +31,11 @@ EndsAt Long text = ⊥
 EndsAt Open text = ⊥
 
 -- a command is answered, or a line refused, as defined of the text. After a failed read no whole line is in hand, and nothing
--- was passed over but the line `end`
+-- was passed over; or the line `end` was, and nothing is in hand
 abbrev pub Shows : (List ℕ → Result (Command × List ℕ) LineFault) → Option (List ℕ) → Option (List ℕ) → List ℕ → Result Command CommandFault → Type 0
 Shows defined text text' hand (Ok command) = Of text text' (λ t t'. defined t ≡ Ok (command, t'))
 Shows defined text text' hand (Err (fault.Line f)) = Of text text' (λ t t'. defined t ≡ Err f)
-Shows defined text text' hand (Err fault.ReadFault) = (line_at hand ≡ Open) × Of text text' (λ t t'. (t' ≡ t) ⊎ EndsAt (line_at t) t')
+Shows defined text text' hand (Err fault.ReadFault) = (line_at hand ≡ Open) × Of text text' (λ t t'. (t' ≡ t) ⊎ ((hand ≡ []) × EndsAt (line_at t) t'))
 
 -- the fault of a command among those of the whole schedule
 abbrev pub widened : CommandFault → ScheduleFault

@@ -1,12 +1,11 @@
 -- What a single line says, by its words alone. The rules come in their order: NotWord, NotNumber, Range.
-use Rattle.std.specs.Prelude.{◌≡◌, ℕ, ◌-◌, ◌%◌, ◌^◌, ◌≤◌, Bool, ◌&&◌, ◌||◌, if◌then◌else◌, nat_eq, nat_le, List, length, Option, Some, None, Result, Ok, Err}
+use Rattle.std.specs.Prelude.{◌≡◌, ℕ, ◌-◌, ◌%◌, ◌^◌, ◌≤◌, Bool, ◌&&◌, ◌||◌, if◌then◌else◌, nat_eq, nat_le, List, length, Option, Some, None, Result, Ok, Err, codes, ⊤}
 use Rattle.std.specs.Str.{bytes_eq}
 use Rattle.sched_text.specs.Lines.{words, word}
 use Rattle.sched_text.specs.Numbers.{number, kept}
 use Rattle.perf_sample.specs.Layout.{is_layout}
 use Rattle.sched_text.specs.declared.faults.Reason.{Reason}
 use Rattle.sched_text.specs.declared.faults.Reason.TheVariants as reason
-use Rattle.sched_text.specs.declared.rows.TheConstants.{VERSION, HARTS, LAYOUT, TASK, IRQ, RUN, SAMPLE, EVICT, END}
 use Rattle.sched_text.specs.declared.rows.IrqWords.{IrqWords}
 use Rattle.sched_text.specs.declared.schedule.TaskLine.{TaskLine}
 use Rattle.sched_text.specs.declared.schedule.Command.{Command}
@@ -33,21 +32,21 @@ hexadecimal line place = or_not_number (number 16 (word line place))
 -- ctr-schedule VERSION
 abbrev pub version_of : List ℕ → Result (Unit {0}) Reason
 version_of line =
-    if has_form line VERSION.now 2 then
+    if has_form line (codes "ctr-schedule") 2 then
     then_with (decimal line 1) (λ version. if nat_eq version 1 then Ok tt else Err reason.Range)
     else Err reason.NotWord
 
 -- harts N
 abbrev pub harts_of : List ℕ → Result ℕ Reason
 harts_of line =
-    if has_form line HARTS.now 2 then
+    if has_form line (codes "harts") 2 then
     then_with (decimal line 1) (λ harts. if nat_le 1 harts && nat_le harts 16 then Ok harts else Err reason.Range)
     else Err reason.NotWord
 
 -- layout HEX
 abbrev pub layout_of : List ℕ → Result ℕ Reason
 layout_of line =
-    if has_form line LAYOUT.now 2 then
+    if has_form line (codes "layout") 2 then
     then_with (hexadecimal line 1) (λ bits. if nat_le bits (2 ^ 64 - 1) && is_layout bits then Ok bits else Err reason.Range)
     else Err reason.NotWord
 
@@ -60,7 +59,7 @@ task_in_range image mem depth mctrctl vsctrctl period =
 -- task IMAGE MEM DEPTH MCTRCTL VSCTRCTL PERIOD
 abbrev pub task_of : List ℕ → Result TaskLine Reason
 task_of line =
-    if has_form line TASK.now 7 then
+    if has_form line (codes "task") 7 then
     then_with (decimal line 1) (λ image. then_with (decimal line 2) (λ mem. then_with (decimal line 3) (λ depth.
     then_with (hexadecimal line 4) (λ mctrctl. then_with (hexadecimal line 5) (λ vsctrctl. then_with (decimal line 6) (λ period.
     if task_in_range image mem depth mctrctl vsctrctl period
@@ -86,7 +85,7 @@ is_cause c =
 -- irq TASK STEP CAUSE
 abbrev pub irq_of : List ℕ → Result IrqWords Reason
 irq_of line =
-    if has_form line IRQ.now 4 then
+    if has_form line (codes "irq") 4 then
     then_with (decimal line 1) (λ task. then_with (decimal line 2) (λ step. then_with (decimal line 3) (λ cause.
     if nat_le step 1000000000000000 && is_cause cause then Ok (record { task = kept task; step = step; cause = cause })
     else Err reason.Range)))
@@ -98,11 +97,18 @@ run_of line =
     then_with (decimal line 1) (λ hart. then_with (decimal line 2) (λ task. then_with (decimal line 3) (λ steps.
     if nat_le steps 1000000000 then Ok (command.Run (kept hart) (kept task) steps) else Err reason.Range)))
 
+-- a command whose number of steps is in its range
+abbrev pub IsCommand : Command → Type 0
+IsCommand (command.Run hart task steps) = steps ≤ 1000000000
+IsCommand (command.Sample task) = ⊤
+IsCommand (command.Evict hart) = ⊤
+IsCommand command.End = ⊤
+
 -- run HART TASK STEPS, sample TASK, evict HART, or end
 abbrev pub command_of : List ℕ → Result Command Reason
 command_of line =
-    if has_form line RUN.now 4 then run_of line
-    else if has_form line SAMPLE.now 2 then then_with (decimal line 1) (λ task. Ok (command.Sample (kept task)))
-    else if has_form line EVICT.now 2 then then_with (decimal line 1) (λ hart. Ok (command.Evict (kept hart)))
-    else if has_form line END.now 1 then Ok command.End
+    if has_form line (codes "run") 4 then run_of line
+    else if has_form line (codes "sample") 2 then then_with (decimal line 1) (λ task. Ok (command.Sample (kept task)))
+    else if has_form line (codes "evict") 2 then then_with (decimal line 1) (λ hart. Ok (command.Evict (kept hart)))
+    else if has_form line (codes "end") 1 then Ok command.End
     else Err reason.NotWord

@@ -1,9 +1,10 @@
 //! One command, read from the text.
 
-ghost use Rattle.std.specs.Prelude.{◌≡◌, ◌≤◌, ◌<◌, ◌-◌, ◌^◌, false, length, IfOk};
+ghost use Rattle.std.specs.Prelude.{◌≡◌, ◌≤◌, ◌<◌, ◌-◌, ◌^◌, false, [], length, IfOk};
 ghost use Rattle.ctr_port.specs.Counts.{Rose};
 ghost use Rattle.ctr_port.specs.InHand.{text_of};
 ghost use Rattle.sched_text.specs.Commands.{is_end, command_at, needs_read};
+ghost use Rattle.sched_text.specs.Rows.{IsCommand};
 ghost use Rattle.sched_text.specs.Reader.{Shows, Finishes, ended};
 
 use crate::faults::{CommandFault, LineFault, Reason};
@@ -30,6 +31,8 @@ fn finish<S: Source>(window: &mut Window, source: &mut S, line: u32) -> Result<(
     ensures later { S.faults source.old ≤ S.faults source.new }
     ensures cause { result ≡ Err CommandFault.ReadFault → Rose (S.faults source.old) (S.faults source.new) }
     ensures still { 0 < length window.old → source.new ≡ source.old }
+    ensures hand { length window.new ≤ 4096 }
+    ensures none { IfOk result (λ _. window.new ≡ []) }
 {
     if window.bytes().len() > 0 {
         return Err(CommandFault::Line(LineFault {
@@ -68,6 +71,9 @@ pub(crate) fn next_command<S: Source>(
     ensures later { S.faults source.old ≤ S.faults source.new }
     ensures cause { result ≡ Err CommandFault.ReadFault → Rose (S.faults source.old) (S.faults source.new) }
     ensures still { needs_read window.old ≡ false → source.new ≡ source.old }
+    ensures range { IfOk result IsCommand }
+    ensures hand { length window.new ≤ 4096 }
+    ensures fewer { IfOk result (λ _. length window.new < 4096) }
     ensures few { IfOk result (λ command. is_end command ≡ false → commands < 1048576) }
 {
     let count = match read_line(window, source) {

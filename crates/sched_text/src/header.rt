@@ -27,6 +27,7 @@ fn one_line<S: Source>(
     ensures count { IfOk result (λ _. lines_of progress.new ≡ lines_of progress.old + 1) }
     ensures few { IfOk result (λ _. length progress.new.irqs ≤ 65537) }
     ensures sound { IfOk result (λ _. Sound progress.new) }
+    ensures hand { length window.new ≤ 4096 }
     ensures later { S.faults source.old ≤ S.faults source.new }
     ensures cause { result ≡ Err ScheduleFault.ReadFault → Rose (S.faults source.old) (S.faults source.new) }
 {
@@ -73,10 +74,12 @@ pub(crate) fn read_header<S: Source>(
     source: &mut S,
     line: &mut u32,
 ) -> Result<Header, ScheduleFault>
-    requires { line.old ≡ 0 }
+    requires line { line.old ≡ 0 }
+    requires hand { length window.old ≤ 4096 }
     ensures heads { Heads line.new (text_of window.old (S.left source.old)) (text_of window.new (S.left source.new)) window.new result }
     ensures sound { IfOk result IsHeader }
     ensures most { line.new ≤ 65605 }
+    ensures hand { length window.new ≤ 4096 }
     ensures later { S.faults source.old ≤ S.faults source.new }
     ensures cause { result ≡ Err ScheduleFault.ReadFault → Rose (S.faults source.old) (S.faults source.new) }
 {

@@ -1,6 +1,6 @@
 //! The bytes of an image, read from the text.
 
-ghost use Rattle.std.specs.Prelude.{◌≡◌, ◌≤◌, ◌<◌, ◌-◌, ◌++◌, length, min, take, drop, OnOk};
+ghost use Rattle.std.specs.Prelude.{◌≡◌, ◌≤◌, ◌<◌, ◌-◌, ◌++◌, length, min, take, drop, OnOk, IfOk};
 ghost use Rattle.ctr_port.specs.Counts.{Rose};
 ghost use Rattle.ctr_port.specs.InHand.{text_of};
 ghost use Rattle.sched_text.specs.Images.{Images, image_at};
@@ -15,6 +15,7 @@ use std::alloc::Global;
 fn take_front(window: &mut Window, image: &mut Image, len: usize) -> Result<(), NoMemory>
     requires { length image.old ≤ len }
     ensures image { OnOk result (image.new ≡ image.old ++ take (min (len - length image.old) (length window.old)) window.old) }
+    ensures hand { length window.new ≤ 4096 }
     ensures window { OnOk result (window.new ≡ drop (min (len - length image.old) (length window.old)) window.old) }
 {
     let count = (len - image.items().len()).min(window.bytes().len());
@@ -34,6 +35,8 @@ pub(crate) fn read_image<S: Source>(
     ensures images { Images line len (text_of window.old (S.left source.old)) (text_of window.new (S.left source.new)) window.new result }
     ensures later { S.faults source.old ≤ S.faults source.new }
     ensures cause { result ≡ Err ScheduleFault.ReadFault → Rose (S.faults source.old) (S.faults source.new) }
+    ensures hand { length window.new ≤ 4096 }
+    ensures size { IfOk result (λ image. length image ≡ len) }
     ensures still { len ≤ length window.old → source.new ≡ source.old }
 {
     let wanted = len as usize;

@@ -1,11 +1,12 @@
 //! A schedule read from its source, call by call.
 
-ghost use Rattle.std.specs.Prelude.{◌≡◌, ◌≢◌, ◌≤◌, ◌+◌, None, Some, false, length, IfOk};
+ghost use Rattle.std.specs.Prelude.{◌≡◌, ◌≢◌, ◌≤◌, ◌<◌, ◌+◌, None, Some, false, length, IfOk};
 ghost use Rattle.ctr_port.specs.Counts.{Rose};
 ghost use Rattle.ctr_port.specs.InHand.{text_of};
 ghost use Rattle.sched_text.specs.Commands.{command_at, needs_read};
 ghost use Rattle.sched_text.specs.Heads.{Heads, IsHeader};
 ghost use Rattle.sched_text.specs.Images.{Images};
+ghost use Rattle.sched_text.specs.Rows.{IsCommand};
 ghost use Rattle.sched_text.specs.Reader.{fresh, Shows, widened, refusal, refusal_of, counted, ends_now};
 
 use crate::commands::{is_end, next_command};
@@ -31,14 +32,14 @@ pub struct ScheduleReader {
 }
 
 impl Model for ScheduleReader {
-    ghost use Rattle.std.specs.Prelude.{◌≡◌, ◌≤◌, ◌+◌, None, false};
+    ghost use Rattle.std.specs.Prelude.{◌≡◌, ◌≤◌, ◌+◌, None, false, length};
     ghost use Rattle.sched_text.specs.Reader.{Reader};
 
     ghost Value = { Reader };
 
     ghost view = { λ r. record { refused = r.refused; line = r.line; commands = r.commands; ended = r.ended; hand = r.window } };
 
-    ghost invariant = { λ r. (r.commands ≤ 1048576) × (r.line ≤ 65607 + r.commands) × (r.refused ≡ None → r.ended ≡ false → r.line ≤ 65606 + r.commands) };
+    ghost invariant = { λ r. (length r.window ≤ 4096) × (r.commands ≤ 1048576) × (r.line ≤ 65607 + r.commands) × (r.refused ≡ None → r.ended ≡ false → r.line ≤ 65606 + r.commands) };
 }
 
 impl ScheduleReader {
@@ -71,6 +72,7 @@ impl ScheduleReader {
         requires { self.old ≡ fresh }
         ensures heads { Heads self.new.line (text_of self.old.hand (S.left source.old)) (text_of self.new.hand (S.left source.new)) self.new.hand result }
         ensures sound { IfOk result IsHeader }
+        ensures hand { length self.new.hand ≤ 4096 }
         ensures later { S.faults source.old ≤ S.faults source.new }
         ensures cause { result ≡ Err ScheduleFault.ReadFault → Rose (S.faults source.old) (S.faults source.new) }
         ensures refused { self.new.refused ≡ refusal_of result }
@@ -94,6 +96,8 @@ impl ScheduleReader {
     ) -> Result<Image, ScheduleFault>
         requires { self.old.refused ≢ Some ScheduleFault.Memory }
         ensures images { self.old.refused ≡ None → Images self.old.line len (text_of self.old.hand (S.left source.old)) (text_of self.new.hand (S.left source.new)) self.new.hand result }
+        ensures size { IfOk result (λ image. length image ≡ len) }
+        ensures hand { length self.new.hand ≤ 4096 }
         ensures later { S.faults source.old ≤ S.faults source.new }
         ensures cause { self.old.refused ≡ None → result ≡ Err ScheduleFault.ReadFault → Rose (S.faults source.old) (S.faults source.new) }
         ensures still { len ≤ length self.old.hand → source.new ≡ source.old }
@@ -118,6 +122,10 @@ impl ScheduleReader {
         requires memory { self.old.refused ≢ Some ScheduleFault.Memory }
         requires goes_on { self.old.refused ≡ None → self.old.ended ≡ false }
         ensures shows { self.old.refused ≡ None → Shows (command_at (self.old.line + 1) self.old.commands) (text_of self.old.hand (S.left source.old)) (text_of self.new.hand (S.left source.new)) self.new.hand result }
+        ensures range { IfOk result IsCommand }
+        ensures most { self.new.commands ≤ 1048576 }
+        ensures hand { length self.new.hand ≤ 4096 }
+        ensures fewer { IfOk result (λ _. length self.new.hand < 4096) }
         ensures later { S.faults source.old ≤ S.faults source.new }
         ensures cause { self.old.refused ≡ None → result ≡ Err CommandFault.ReadFault → Rose (S.faults source.old) (S.faults source.new) }
         ensures still { needs_read self.old.hand ≡ false → source.new ≡ source.old }

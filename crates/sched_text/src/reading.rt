@@ -1,6 +1,6 @@
 //! One line, read as far as it goes.
 
-ghost use Rattle.std.specs.Prelude.{◌≡◌, ◌≤◌, false};
+ghost use Rattle.std.specs.Prelude.{◌≡◌, ◌≤◌, false, length};
 ghost use Rattle.ctr_port.specs.Counts.{Rose};
 ghost use Rattle.ctr_port.specs.InHand.{Same};
 ghost use Rattle.sched_text.specs.Lines.{line_at};
@@ -28,6 +28,7 @@ pub(crate) fn read_line<S: Source>(window: &mut Window, source: &mut S) -> Resul
     ensures same { Same window.old (S.left source.old) window.new (S.left source.new) }
     ensures line { HasLine window.new (S.left source.new) result }
     ensures later { S.faults source.old ≤ S.faults source.new }
+    ensures hand { length window.new ≤ 4096 }
     ensures cause { result ≡ Err Stop.Failed → Rose (S.faults source.old) (S.faults source.new) }
     ensures still { is_open (line_at window.old) ≡ false → (window.new ≡ window.old) × (source.new ≡ source.old) }
 {

@@ -2,7 +2,7 @@
 
 ghost use Rattle.std.specs.Prelude.{◌≡◌, ◌<◌, ◌≤◌, length, true, IfOk};
 ghost use Rattle.sched_text.specs.Lines.{words};
-ghost use Rattle.sched_text.specs.Rows.{has_form, decimal, hexadecimal, version_of, harts_of, layout_of, task_of, IsTask, irq_of, is_cause, run_of, command_of};
+ghost use Rattle.sched_text.specs.Rows.{has_form, decimal, hexadecimal, version_of, harts_of, layout_of, task_of, IsTask, irq_of, is_cause, run_of, IsCommand, command_of};
 ghost use Rattle.perf_sample.specs.Layout.{IsLayout};
 ghost use Rattle.sched_text.specs.Numbers.{kept};
 
@@ -171,7 +171,8 @@ fn kept(number: u128) -> u64
 
 /// A line after the images.
 pub(crate) fn command_row(line: &[u8]) -> Result<Command, Reason>
-    ensures { result ≡ command_of line.now }
+    ensures command { result ≡ command_of line.now }
+    ensures range { IfOk result IsCommand }
 {
     if has_form(line, RUN, 4) {
         return run_row(line);
@@ -192,7 +193,8 @@ pub(crate) fn command_row(line: &[u8]) -> Result<Command, Reason>
 
 fn run_row(line: &[u8]) -> Result<Command, Reason>
     requires { length (words line.now) ≡ 4 }
-    ensures { result ≡ run_of line.now }
+    ensures run { result ≡ run_of line.now }
+    ensures range { IfOk result IsCommand }
 {
     let hart = decimal(line, 1)?;
     let task = decimal(line, 2)?;

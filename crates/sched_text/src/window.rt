@@ -58,6 +58,7 @@ impl Window {
     pub(crate) fn fill<S: Source>(&mut self, source: &mut S) -> Got
         requires { length self.old < 4096 }
         ensures fills { Fills (S.left source.old) (S.left source.new) self.old self.new result }
+        ensures most { length self.new ≤ 4096 }
         ensures later { S.faults source.old ≤ S.faults source.new }
         ensures cause { result ≡ Got.Failed → Rose (S.faults source.old) (S.faults source.new) }
     {

@@ -9,7 +9,7 @@ pub loop-line-init : goal.loop-line-init
 loop-line-init g c =
     let left = g.S.Source.left c.args.source.now in
     let none = came_none c.args.window.now left in
-    rw (c.requires, c.new-progress.ensures.start) (none, omega arith, subst Sound c.new-progress.ensures.start c.new-progress.ensures.sound, omega arith, omega arith)
+    rw (c.requires.line, c.new-progress.ensures.start) (none, omega arith, subst Sound c.new-progress.ensures.start c.new-progress.ensures.sound, omega arith, c.requires.hand, omega arith)
 
 pub loop-line-preserved : goal.loop-line-preserved
 loop-line-preserved g c =
@@ -20,7 +20,8 @@ loop-line-preserved g c =
       omega (arith, c.in-Ok.ensures.count, c.loop-line.invariant.1),
       c.in-Ok.ensures.sound,
       c.in-Ok.ensures.few,
-      omega (arith, c.in-Ok.ensures.later, c.loop-line.invariant.4),
+      c.one_line.ensures.hand,
+      omega (arith, c.in-Ok.ensures.later, c.loop-line.invariant.5),
     )
 
 pub returns-in-Err-clause-heads : goal.returns-in-Err-clause-heads

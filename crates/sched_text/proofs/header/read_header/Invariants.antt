@@ -9,6 +9,7 @@ invariant-loop-line g l =
     × (l.line ≡ lines_of l.progress)
     × Sound l.progress
     × (length l.progress.irqs ≤ 65537)
+    × (length l.window ≤ 4096)
     × (g.S.Source.faults l.fn.source ≤ g.S.Source.faults l.source)
 
 abbrev pub decreases-loop-line : goal.decreases-loop-line

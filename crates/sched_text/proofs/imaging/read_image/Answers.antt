@@ -17,6 +17,7 @@ loop-window-init g c =
       joins_moved (text_of hand left) hand hand' none image' left (min (c.args.len - length none) (length hand)) (joins_none hand left) i w,
       t.0,
       t.1,
+      c.take_front.ensures.hand,
       omega arith,
       λ enough. (t.2 (omega (arith, enough)), refl),
     )
@@ -39,6 +40,7 @@ loop-window-preserved g c =
       joins_moved a filled hand' image image' left' (min (c.args.len - length image) (length filled)) (joins_read a hand filled image left left' c.loop-window.invariant.0 same) c.in-Ok-take_front.ensures.image c.in-Ok-take_front.ensures.window,
       t.0,
       t.1,
-      omega (arith, c.loop-window.invariant.3, c.in-Bytes.ensures.later),
-      λ enough. absurd (omega (arith, short, (c.loop-window.invariant.4 enough).0)),
+      c.take_front-in-loop-window.ensures.hand,
+      omega (arith, c.loop-window.invariant.4, c.in-Bytes.ensures.later),
+      λ enough. absurd (omega (arith, short, (c.loop-window.invariant.5 enough).0)),
     )

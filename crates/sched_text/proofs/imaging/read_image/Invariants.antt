@@ -8,6 +8,7 @@ invariant-loop-window g l =
     Of (text_of l.fn.window (g.S.Source.left l.fn.source)) (text_of l.window (g.S.Source.left l.source)) (Joins l.image)
     × (length l.image ≤ l.wanted)
     × (length l.image < l.wanted → l.window ≡ [])
+    × (length l.window ≤ 4096)
     × (g.S.Source.faults l.fn.source ≤ g.S.Source.faults l.source)
     × (l.wanted ≤ length l.fn.window → (length l.image ≡ l.wanted) × (l.source ≡ l.fn.source))
 
