@@ -7,3 +7,4 @@ pub mod HeadLaws
 pub mod ImageLaws
 pub mod BreakLaws
 pub mod WholeLaws
+pub mod OneLaws

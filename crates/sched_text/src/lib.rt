@@ -18,7 +18,7 @@ mod window;
 mod words;
 
 pub use faults::{CommandFault, LineFault, Reason, ScheduleFault};
-pub use laws::{one_break, whole_or_broken};
+pub use laws::{one_break, one_of_each, whole_or_broken};
 pub use lists::{Image, IrqLines, TaskLines};
 pub use reader::ScheduleReader;
 pub use schedule::{Command, Header, IrqLine, TaskLine};
