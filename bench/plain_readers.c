@@ -1,4 +1,4 @@
-/* A yardstick for bench/readers.sh: the same input in plain C, with the same tests of each field and each number.
+/* A yardstick for bench/readers.sh: the same input in plain C, with the same tests of each field and each number; the layout is 803.
    plain_readers samples|fields|schedule: reads standard input into memory, then prints how many samples or commands there are, and
    the nanoseconds of processor time that reading took. Samples are read where they lie, or field by field through a call. */
 #include <stdint.h>
@@ -11,6 +11,7 @@ struct branch { uint64_t from, to, flags; };
 struct sample { uint64_t ip; uint32_t pid, tid; uint16_t misc; unsigned nr; struct branch branches[256]; };
 struct task { uint64_t image, mem, depth, m, vs, period; };
 struct irq { uint64_t task, step, cause; };
+struct mark { unsigned count; uint64_t step, cause; };
 
 static uint64_t le(const uint8_t *p, int n) { uint64_t v = 0; memcpy(&v, p, n); return v; }
 
@@ -92,6 +93,8 @@ static long fields(const uint8_t *p, size_t len) {
     return some ? -1 : count;
 }
 
+static int large; /* whether a number of the line is past 64 bits */
+
 /* A number of digits of this base, behind one space: what follows it, or NULL. Larger ones stay at 2^64 - 1. */
 static const uint8_t *number(const uint8_t *p, const uint8_t *end, int base, uint64_t *to) {
     uint64_t v = 0;
@@ -99,9 +102,10 @@ static const uint8_t *number(const uint8_t *p, const uint8_t *end, int base, uin
     const uint8_t *first = p;
     for (; p < end && *p != ' '; p++) {
         int d = *p >= '0' && *p <= '9' ? *p - '0' : base == 16 && (*p | 32) >= 'a' && (*p | 32) <= 'f' ? (*p | 32) - 'a' + 10 : 16;
-        if (d >= base || __builtin_mul_overflow(v, (uint64_t)base, &v) || __builtin_add_overflow(v, (uint64_t)d, &v)) {
-            if (d >= base) return NULL;
+        if (d >= base) return NULL;
+        if (__builtin_mul_overflow(v, (uint64_t)base, &v) || __builtin_add_overflow(v, (uint64_t)d, &v)) {
             v = UINT64_MAX;
+            large = 1;
         }
     }
     *to = v;
@@ -113,6 +117,7 @@ static int line(const uint8_t *p, const uint8_t *end, const char *word, int n, i
     size_t len = strlen(word);
     if ((size_t)(end - p) < len || memcmp(p, word, len)) return 0;
     p += len;
+    large = 0;
     for (int i = 0; i < n && p; i++) p = number(p, end, i == h || i == h + 1 ? 16 : 10, to + i);
     return p == end;
 }
@@ -124,6 +129,14 @@ static const uint8_t *line_end(const uint8_t *p, const uint8_t *end) {
 
 static struct task tasks[64];
 static struct irq irqs[64 * 1024];
+static struct mark marks[64];
+
+/* Whether an irq line may follow those of its task. */
+static int follows(struct mark *m, uint64_t step, uint64_t cause) {
+    if (m->count == 1024 || (m->count && (step < m->step || (step == m->step && cause <= m->cause)))) return 0;
+    *m = (struct mark){m->count + 1, step, cause};
+    return 1;
+}
 
 static long schedule(const uint8_t *p, size_t len) {
     const uint8_t *end = p + len, *to;
@@ -134,11 +147,11 @@ static long schedule(const uint8_t *p, size_t len) {
         else if (at == 1) { if (!line(p, to, "harts", 1, -9, v) || v[0] < 1 || v[0] > 16) return -1; }
         else if (at == 2) { if (!line(p, to, "layout", 1, 0, v) || v[0] != 0x803) return -1; }
         else if (line(p, to, "task", 6, 3, v)) {
-            if (m || n == 64 || v[1] < 4 || v[1] > 1 << 20 || v[1] % 4 || v[0] > v[1] || v[2] > 4 || v[5] > 1000000000) return -1;
+            if (m || n == 64 || v[1] < 4 || v[1] > 1 << 20 || v[1] % 4 || v[0] > v[1] || v[2] > 4 || v[5] > 1000000000 || large) return -1;
             tasks[n++] = (struct task){v[0], v[1], v[2], v[3], v[4], v[5]};
             images += v[0];
         } else if (line(p, to, "irq", 3, -9, v)) {
-            if (m == 64 * 1024 || v[0] >= (uint64_t)n || v[1] > 1000000000000000 || v[2] > 13) return -1;
+            if (v[1] > 1000000000000000 || v[2] > 13 || !(0x2EEE >> v[2] & 1) || v[0] >= (uint64_t)n || !follows(marks + v[0], v[1], v[2])) return -1;
             irqs[m++] = (struct irq){v[0], v[1], v[2]};
         } else break;
     }

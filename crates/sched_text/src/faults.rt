@@ -41,7 +41,7 @@ pub struct LineFault {
 #[derive(Clone, Copy, Debug, PartialEq, Eq)]
 pub enum ScheduleFault {
     Line(LineFault),
-    /// A read failed. It comes only where the source's count of faults rose.
+    /// A read failed. It comes only where the source's count of faults rose, or was answered before.
     ReadFault,
     /// No memory was found.
     Memory,
@@ -51,6 +51,6 @@ pub enum ScheduleFault {
 #[derive(Clone, Copy, Debug, PartialEq, Eq)]
 pub enum CommandFault {
     Line(LineFault),
-    /// A read failed. It comes only where the source's count of faults rose.
+    /// A read failed. It comes only where the source's count of faults rose, or was answered before.
     ReadFault,
 }
