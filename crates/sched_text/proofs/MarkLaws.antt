@@ -1,12 +1,16 @@
 -- The marks of the tasks.
-use Rattle.std.proofs.Common.{◌≡◌, ◌<◌, ◌≤◌, List, [], ◌∷◌, ◌++◌, length, replicate, None, refl, sym, subst, append-nil, append_assoc, arith}
-use Rattle.std.proofs.lemmas.Bool.{false≢true, true≢false}
+use Rattle.std.proofs.Common.{◌≡◌, ℕ, ◌<◌, ◌≤◌, ◌∙◌, if◌then◌else◌, cond, nat_eq, nat_le, Bool, true, false, List, [], ◌∷◌, ◌++◌, length, replicate, Option, None, Some, refl, sym, subst, append-nil, append_assoc, length-append, arith}
+use Rattle.std.specs.List.{fold}
+use Rattle.std.proofs.lemmas.Bool.{false≢true, true≢false, lt-ltb}
+use Rattle.std.proofs.lemmas.List.Sums.{fold-append}
 use Rattle.std.proofs.lemmas.List.{get_or-replicate}
 use Rattle.std.proofs.lemmas.List.Elements.{All-replicate, All-push, All-nil}
 use Rattle.std.proofs.lemmas.List.Sums.{sum_by-le}
 use Rattle.sched_text.specs.declared.irqs.Mark.{Mark}
 use Rattle.sched_text.specs.declared.schedule.IrqLine.{IrqLine}
-use Rattle.sched_text.specs.Irqs.{no_mark, Marked, irq_refusal, mark_of, follow_on, AllFollow, IsIrq}
+use Rattle.sched_text.specs.Irqs.{lines_of_task, last, order_refusal, irq_refusal, follow_on, AllFollow, IsIrq}
+use Rattle.sched_text.specs.Marks.{no_mark, noted, note, mark_of, mark_refusal, Marked}
+use Rattle.sched_text.specs.declared.faults.Reason.TheVariants as reason
 use Rattle.sched_text.specs.Rows.{IsTask}
 use Rattle.sched_text.specs.Header.{Sound, start}
 use Rattle.sched_text.specs.declared.heading.Progress.{Progress}
@@ -25,14 +29,50 @@ marked_none = record {
 pub marked_few : (marks : List Mark) (irqs : List IrqLine) → Marked marks irqs → length irqs ≤ 65536
 marked_few marks irqs m = omega (arith, m.tasks, m.all, sum_by-le (λ m. m.count) 1024 marks m.few)
 
-push_on : (before irqs : List IrqLine) (x : IrqLine) → follow_on before irqs → irq_refusal (mark_of x.task (before ++ irqs)) x ≡ None → follow_on before (irqs ++ x ∷ [])
+-- a mark that tells how many lines there are, and the last
+abbrev TellsLast : Mark → Option IrqLine → Type 0
+TellsLast m None = m.count ≡ 0
+TellsLast m (Some x) = (0 < m.count) × (m.step ≡ x.step) × (m.cause ≡ x.cause)
+
+abbrev Tells : Mark → List IrqLine → Type 0
+Tells m lines = (m.count ≡ length lines) × TellsLast m (last lines)
+
+tells_noted : (m : Mark) (lines : List IrqLine) (x : IrqLine) → Tells m lines → Tells (noted m x) (lines ++ x ∷ [])
+tells_noted m lines x t = (
+  omega (arith, t.0, length-append lines (x ∷ [])),
+  rw (fold-append (λ _ irq. Some irq) None lines (x ∷ [])) (omega arith, refl, refl),
+)
+
+-- one line more, of this task or of another
+told_by : (b : Bool) (task : ℕ) (x : IrqLine) (irqs lines : List IrqLine) (m : Mark) → Tells m lines
+    → ((lines' : List IrqLine) (m' : Mark) → Tells m' lines' → Tells (fold (note task) m' irqs) (lines' ++ lines_of_task task irqs))
+    → Tells (fold (note task) (if b then noted m x else m) irqs) (lines ++ cond b (x ∷ lines_of_task task irqs) (lines_of_task task irqs))
+told_by true task x irqs lines m t next =
+    subst (Tells (fold (note task) (noted m x) irqs)) (append_assoc lines (x ∷ []) (lines_of_task task irqs)) (next (lines ++ x ∷ []) (noted m x) (tells_noted m lines x t))
+told_by false task x irqs lines m t next = next lines m t
+
+told : (task : ℕ) (irqs lines : List IrqLine) (m : Mark) → Tells m lines → Tells (fold (note task) m irqs) (lines ++ lines_of_task task irqs)
+told task [] lines m t = subst (Tells m) (sym (append-nil lines)) t
+told task (x ∷ irqs) lines m t = told_by (nat_eq x.task task) task x irqs lines m t (λ lines' m' t'. told task irqs lines' m' t')
+
+by_last : (m : Mark) (n : ℕ) (before : Option IrqLine) (x : IrqLine) → m.count ≡ n → TellsLast m before
+    → mark_refusal m x ≡ (if nat_le 1024 n then Some reason.TooMany else order_refusal before x)
+by_last m n None x e t = let none : n ≡ 0 = sym e ∙ t in rw (e, none) refl
+by_last m n (Some y) x e t = rw (lt-ltb 0 m.count t.0, t.1, t.2, e) refl
+
+-- the mark of a task refuses what its lines refuse
+pub mark_refuses : (irqs : List IrqLine) (x : IrqLine) → mark_refusal (mark_of x.task irqs) x ≡ irq_refusal irqs x
+mark_refuses irqs x =
+    let t = told x.task irqs [] no_mark (refl, refl) in by_last (mark_of x.task irqs) (length (lines_of_task x.task irqs)) (last (lines_of_task x.task irqs)) x t.0 t.1
+
+push_on : (before irqs : List IrqLine) (x : IrqLine) → follow_on before irqs → irq_refusal (before ++ irqs) x ≡ None → follow_on before (irqs ++ x ∷ [])
 unfolding follow_on
-push_on before [] x all next = (subst (λ (l : List IrqLine). irq_refusal (mark_of x.task l) x ≡ None) (append-nil before) next, tt)
+push_on before [] x all next = (subst (λ (l : List IrqLine). irq_refusal l x ≡ None) (append-nil before) next, tt)
 push_on before (y ∷ irqs) x all next =
-    (all.0, push_on (before ++ y ∷ []) irqs x all.1 (subst (λ (l : List IrqLine). irq_refusal (mark_of x.task l) x ≡ None) (sym (append_assoc before (y ∷ []) irqs)) next))
+    (all.0, push_on (before ++ y ∷ []) irqs x all.1 (subst (λ (l : List IrqLine). irq_refusal l x ≡ None) (sym (append_assoc before (y ∷ []) irqs)) next))
 
 -- a line that may follow those that are there is added
-pub follow_push : (irqs : List IrqLine) (x : IrqLine) → AllFollow irqs → irq_refusal (mark_of x.task irqs) x ≡ None → AllFollow (irqs ++ x ∷ [])
+pub follow_push : (irqs : List IrqLine) (x : IrqLine) → AllFollow irqs → irq_refusal irqs x ≡ None → AllFollow (irqs ++ x ∷ [])
 follow_push irqs x all next = push_on [] irqs x all next
 
 pub start_sound : Sound start
@@ -50,7 +90,7 @@ start_sound = record {
 }
 
 -- one more irq line
-pub irq_sound : (p : Progress) (irqs : List IrqLine) (x : IrqLine) → Sound p → irqs ≡ p.irqs ++ x ∷ [] → 0 < length p.tasks → IsIrq (length p.tasks) x → irq_refusal (mark_of x.task p.irqs) x ≡ None
+pub irq_sound : (p : Progress) (irqs : List IrqLine) (x : IrqLine) → Sound p → irqs ≡ p.irqs ++ x ∷ [] → 0 < length p.tasks → IsIrq (length p.tasks) x → irq_refusal p.irqs x ≡ None
     → Sound (record p { place = place.Irqs; irqs = irqs })
 irq_sound p irqs x s e some fits next = record {
   one_hart = s.one_hart;

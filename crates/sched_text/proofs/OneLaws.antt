@@ -1,5 +1,5 @@
 -- What is whole in a text is one of each.
-use Rattle.std.proofs.Common.{◌≡◌, ℕ, ◌+◌, ◌<◌, List, drop, take, Ok, Err, ap, ◌∙◌, sym, subst, inl, inr, arith}
+use Rattle.std.proofs.Common.{◌≡◌, ℕ, ◌+◌, List, drop, take, Ok, Err, ap, ◌∙◌, sym, subst, inl, inr, arith}
 use Rattle.std.proofs.lemmas.Bool.{cases_eq, cases_lt}
 use Rattle.sched_text.specs.Heads.{HasHeader}
 use Rattle.sched_text.specs.Commands.{command_at, commands_after}

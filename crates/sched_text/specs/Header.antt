@@ -4,7 +4,7 @@ use Rattle.std.specs.List.{All}
 use Rattle.perf_sample.specs.Layout.{IsLayout}
 use Rattle.sched_text.specs.Lines.{LineCut, Line, Long, Open, line_at}
 use Rattle.sched_text.specs.Rows.{then_with, has_form, version_of, harts_of, layout_of, task_of, irq_of, IsTask}
-use Rattle.sched_text.specs.Irqs.{mark_of, irq_refusal, IsIrq, AllFollow}
+use Rattle.sched_text.specs.Irqs.{irq_refusal, IsIrq, AllFollow}
 use Rattle.sched_text.specs.declared.heading.Place.{Place}
 use Rattle.sched_text.specs.declared.heading.Place.TheVariants as place
 use Rattle.sched_text.specs.declared.heading.Progress.{Progress}
@@ -44,7 +44,7 @@ irq_line irq = record { task = irq.task; step = irq.step; cause = irq.cause }
 -- a task that isn't there has no irq lines, so none of them is one too many
 abbrev pub irq_step : Progress → List ℕ → Result Progress Reason
 irq_step p line = then_with (irq_of line) (λ irq.
-    if nat_lt irq.task (length p.tasks) then irq_judged p (irq_line irq) (irq_refusal (mark_of irq.task p.irqs) (irq_line irq)) else Err reason.NoTask)
+    if nat_lt irq.task (length p.tasks) then irq_judged p (irq_line irq) (irq_refusal p.irqs (irq_line irq)) else Err reason.NoTask)
 
 abbrev pub images_step : Progress → List ℕ → Result Progress Reason
 images_step p line = if has_form line (codes "images") 1 then Ok (record p { place = place.Images }) else Err reason.NotWord

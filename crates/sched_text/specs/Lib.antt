@@ -4,6 +4,7 @@ pub mod Hand
 pub mod Numbers
 pub mod Rows
 pub mod Irqs
+pub mod Marks
 pub mod Header
 pub mod Heads
 pub mod Images

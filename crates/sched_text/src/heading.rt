@@ -100,7 +100,6 @@ impl Progress {
     }
 
     // An irq line.
-    #[tactic(auto, using(crate::proofs::MarkLaws::follow_push))]
     fn irq(&mut self, line: &[u8]) -> Result<(), StepFault>
         requires sound { Sound self.old }
         requires some { 0 < length self.old.tasks }

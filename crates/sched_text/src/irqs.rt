@@ -1,7 +1,8 @@
 //! The irq lines of a header, with a mark for each task by which the next line is judged.
 
 ghost use Rattle.std.specs.Prelude.{◌≡◌, ◌<◌, ◌≤◌, [], ◌∷◌, ◌++◌, length, None, OnOk};
-ghost use Rattle.sched_text.specs.Irqs.{mark_of, irq_refusal};
+ghost use Rattle.sched_text.specs.Irqs.{irq_refusal};
+ghost use Rattle.sched_text.specs.Marks.{mark_of, mark_refusal};
 
 use crate::faults::Reason;
 use crate::lists::IrqLines;
@@ -24,6 +25,21 @@ pub(crate) struct Mark {
     pub(crate) cause: u8,
 }
 
+// Why a line may not follow those of its task, if so.
+fn mark_refusal(mark: Mark, irq: IrqLine) -> Option<Reason>
+    ensures { result ≡ mark_refusal mark irq }
+{
+    if mark.count >= MOST {
+        return Some(Reason::TooMany);
+    }
+    if mark.count > 0
+        && (irq.step < mark.step || irq.step == mark.step && irq.cause <= mark.cause)
+    {
+        return Some(Reason::IrqOrder);
+    }
+    None
+}
+
 /// Irq lines, in order. Contracts see the list of them.
 #[derive(Drop)]
 pub(crate) struct Irqs {
@@ -34,7 +50,7 @@ pub(crate) struct Irqs {
 impl Model for Irqs {
     ghost use Rattle.std.specs.Prelude.{◌≡◌, List, length};
     ghost use Rattle.sched_text.specs.declared.schedule.IrqLine.{IrqLine};
-    ghost use Rattle.sched_text.specs.Irqs.{Marked};
+    ghost use Rattle.sched_text.specs.Marks.{Marked};
 
     ghost Value = { List IrqLine };
 
@@ -61,25 +77,17 @@ impl Irqs {
     #[tactic(auto, using(crate::proofs::MarkLaws::marked_few))]
     pub(crate) fn refusal(&self, irq: IrqLine) -> Option<Reason>
         requires { irq.task < 64 }
-        ensures refusal { result ≡ irq_refusal (mark_of irq.task self.now) irq }
+        ensures refusal { result ≡ irq_refusal self.now irq }
+        ensures mark { result ≡ mark_refusal (mark_of irq.task self.now) irq }
         ensures few { length self.now ≤ 65536 }
     {
-        let mark = self.marks[irq.task as usize];
-        if mark.count >= MOST {
-            return Some(Reason::TooMany);
-        }
-        if mark.count > 0
-            && (irq.step < mark.step || irq.step == mark.step && irq.cause <= mark.cause)
-        {
-            return Some(Reason::IrqOrder);
-        }
-        None
+        mark_refusal(self.marks[irq.task as usize], irq)
     }
 
     /// Adds a line last.
     pub(crate) fn push(&mut self, irq: IrqLine) -> Result<(), NoMemory>
         requires task { irq.task < 64 }
-        requires follows { irq_refusal (mark_of irq.task self.old) irq ≡ None }
+        requires follows { mark_refusal (mark_of irq.task self.old) irq ≡ None }
         ensures { OnOk result (self.new ≡ self.old ++ irq ∷ []) }
     {
         self.list.push(irq)?;

@@ -1,5 +1,5 @@
 use Rattle.std.proofs.Common.{subst, sym, replicate}
-use Rattle.sched_text.specs.Irqs.{no_mark, Marked}
+use Rattle.sched_text.specs.Marks.{no_mark, Marked}
 use Rattle.sched_text.proofs.MarkLaws.{marked_none}
 use Rattle.sched_text.proofs.irqs.Irqs.new.Goals as goal
 
