@@ -6,6 +6,7 @@ use Rattle.sched_text.specs.Numbers.{number, kept}
 use Rattle.perf_sample.specs.Layout.{is_layout}
 use Rattle.sched_text.specs.declared.faults.Reason.{Reason}
 use Rattle.sched_text.specs.declared.faults.Reason.TheVariants as reason
+use Rattle.sched_text.specs.declared.rows.TaskNumbers.{TaskNumbers}
 use Rattle.sched_text.specs.declared.rows.IrqWords.{IrqWords}
 use Rattle.sched_text.specs.declared.schedule.TaskLine.{TaskLine}
 use Rattle.sched_text.specs.declared.schedule.Command.{Command}
@@ -25,6 +26,11 @@ or_not_number (Some n) = Ok n
 
 abbrev pub decimal : List ℕ → ℕ → Result ℕ Reason
 decimal line place = or_not_number (number 10 (word line place))
+
+-- the number of an answer
+abbrev pub number_of : {A : Type 0} → Result (ℕ × A) Reason → Result ℕ Reason
+number_of (Ok r) = Ok r.0
+number_of (Err why) = Err why
 
 abbrev pub hexadecimal : List ℕ → ℕ → Result ℕ Reason
 hexadecimal line place = or_not_number (number 16 (word line place))
@@ -51,20 +57,25 @@ layout_of line =
     else Err reason.NotWord
 
 -- the ranges of a task line
-abbrev pub task_in_range : ℕ → ℕ → ℕ → ℕ → ℕ → ℕ → Bool
-task_in_range image mem depth mctrctl vsctrctl period =
-    nat_le 4 mem && nat_le mem 1048576 && nat_eq (mem % 4) 0 && nat_le image mem && nat_le depth 4
-    && nat_le mctrctl (2 ^ 64 - 1) && nat_le vsctrctl (2 ^ 64 - 1) && nat_le period 1000000000
+abbrev pub task_in_range : TaskNumbers → Bool
+task_in_range n =
+    nat_le 4 n.mem && nat_le n.mem 1048576 && nat_eq (n.mem % 4) 0 && nat_le n.image n.mem && nat_le n.depth 4
+    && nat_le n.mctrctl (2 ^ 64 - 1) && nat_le n.vsctrctl (2 ^ 64 - 1) && nat_le n.period 1000000000
+
+abbrev pub task_numbers : List ℕ → Result TaskNumbers Reason
+task_numbers line =
+    then_with (decimal line 1) (λ image. then_with (decimal line 2) (λ mem. then_with (decimal line 3) (λ depth.
+    then_with (hexadecimal line 4) (λ mctrctl. then_with (hexadecimal line 5) (λ vsctrctl. then_with (decimal line 6) (λ period.
+    Ok (record { image = image; mem = mem; depth = depth; mctrctl = mctrctl; vsctrctl = vsctrctl; period = period })))))))
+
+abbrev pub task_line : TaskNumbers → TaskLine
+task_line n = record { image = n.image; mem = n.mem; depth = n.depth; mctrctl = n.mctrctl; vsctrctl = n.vsctrctl; period = n.period }
 
 -- task IMAGE MEM DEPTH MCTRCTL VSCTRCTL PERIOD
 abbrev pub task_of : List ℕ → Result TaskLine Reason
 task_of line =
     if has_form line (codes "task") 7 then
-    then_with (decimal line 1) (λ image. then_with (decimal line 2) (λ mem. then_with (decimal line 3) (λ depth.
-    then_with (hexadecimal line 4) (λ mctrctl. then_with (hexadecimal line 5) (λ vsctrctl. then_with (decimal line 6) (λ period.
-    if task_in_range image mem depth mctrctl vsctrctl period
-    then Ok (record { image = image; mem = mem; depth = depth; mctrctl = mctrctl; vsctrctl = vsctrctl; period = period })
-    else Err reason.Range))))))
+    then_with (task_numbers line) (λ n. if task_in_range n then Ok (task_line n) else Err reason.Range)
     else Err reason.NotWord
 
 -- a task line whose numbers are in their ranges

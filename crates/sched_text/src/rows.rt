@@ -1,14 +1,14 @@
 //! What a single line says, by its words alone.
 
-ghost use Rattle.std.specs.Prelude.{◌≡◌, ◌<◌, ◌≤◌, length, true, IfOk};
+ghost use Rattle.std.specs.Prelude.{◌≡◌, ◌<◌, ◌≤◌, length, drop, true, IfOk};
 ghost use Rattle.sched_text.specs.Lines.{words};
-ghost use Rattle.sched_text.specs.Rows.{has_form, decimal, hexadecimal, version_of, harts_of, layout_of, task_of, IsTask, irq_of, is_cause, run_of, IsCommand, command_of};
+ghost use Rattle.sched_text.specs.Rows.{has_form, decimal, number_of, hexadecimal, version_of, harts_of, layout_of, task_numbers, task_of, IsTask, irq_of, is_cause, run_of, IsCommand, command_of};
 ghost use Rattle.perf_sample.specs.Layout.{IsLayout};
 ghost use Rattle.sched_text.specs.Numbers.{kept};
 
 use crate::faults::Reason;
 use crate::schedule::{Command, TaskLine};
-use crate::words::{number, word, word_count};
+use crate::words::{number, split_word, word_count};
 use perf_sample::Layout;
 
 /// The first words of the lines.
@@ -37,21 +37,27 @@ pub(crate) fn has_form(line: &[u8], first: &[u8], count: usize) -> bool
     ensures form { result ≡ has_form line.now first.now count }
     ensures words { result ≡ true → length (words line.now) ≡ count }
 {
-    word_count(line) == count && word(line, 0) == first
+    word_count(line) == count && split_word(line).0 == first
 }
 
-fn decimal(line: &[u8], place: usize) -> Result<u128, Reason>
-    requires { place < length (words line.now) }
-    ensures { result ≡ decimal line.now place }
+// The decimal number that the first word spells, and what follows the space after it.
+fn decimal(line: &[u8]) -> Result<(u128, &[u8]), Reason>
+    ensures number { number_of result ≡ decimal line.now 0 }
+    ensures rest { IfOk result (λ r. 1 < length (words line.now) → words r.1.now ≡ drop 1 (words line.now)) }
 {
-    number(word(line, place), 10).ok_or(Reason::NotNumber)
+    let (first, rest) = split_word(line);
+    let number = number(first, 10).ok_or(Reason::NotNumber)?;
+    Ok((number, rest))
 }
 
-fn hexadecimal(line: &[u8], place: usize) -> Result<u128, Reason>
-    requires { place < length (words line.now) }
-    ensures { result ≡ hexadecimal line.now place }
+// The same of a hexadecimal number.
+fn hexadecimal(line: &[u8]) -> Result<(u128, &[u8]), Reason>
+    ensures number { number_of result ≡ hexadecimal line.now 0 }
+    ensures rest { IfOk result (λ r. 1 < length (words line.now) → words r.1.now ≡ drop 1 (words line.now)) }
 {
-    number(word(line, place), 16).ok_or(Reason::NotNumber)
+    let (first, rest) = split_word(line);
+    let number = number(first, 16).ok_or(Reason::NotNumber)?;
+    Ok((number, rest))
 }
 
 /// The line `ctr-schedule VERSION`.
@@ -61,7 +67,8 @@ pub(crate) fn version_row(line: &[u8]) -> Result<(), Reason>
     if !has_form(line, VERSION, 2) {
         return Err(Reason::NotWord);
     }
-    if decimal(line, 1)? != 1 {
+    let (_, rest) = split_word(line);
+    if decimal(rest)?.0 != 1 {
         return Err(Reason::Range);
     }
     Ok(())
@@ -75,7 +82,8 @@ pub(crate) fn harts_row(line: &[u8]) -> Result<u8, Reason>
     if !has_form(line, HARTS, 2) {
         return Err(Reason::NotWord);
     }
-    let harts = decimal(line, 1)?;
+    let (_, rest) = split_word(line);
+    let (harts, _) = decimal(rest)?;
     if harts < 1 || harts > 16 {
         return Err(Reason::Range);
     }
@@ -90,11 +98,44 @@ pub(crate) fn layout_row(line: &[u8]) -> Result<u64, Reason>
     if !has_form(line, LAYOUT, 2) {
         return Err(Reason::NotWord);
     }
-    let bits = hexadecimal(line, 1)?;
+    let (_, rest) = split_word(line);
+    let (bits, _) = hexadecimal(rest)?;
     if bits > u64::MAX as u128 || Layout::of(bits as u64).is_none() {
         return Err(Reason::Range);
     }
     Ok(bits as u64)
+}
+
+/// The numbers of a task line, which may be outside their ranges.
+#[derive(Clone, Copy)]
+pub(crate) struct TaskNumbers {
+    pub(crate) image: u128,
+    pub(crate) mem: u128,
+    pub(crate) depth: u128,
+    pub(crate) mctrctl: u128,
+    pub(crate) vsctrctl: u128,
+    pub(crate) period: u128,
+}
+
+fn task_numbers(line: &[u8]) -> Result<TaskNumbers, Reason>
+    requires { length (words line.now) ≡ 7 }
+    ensures { result ≡ task_numbers line.now }
+{
+    let (_, rest) = split_word(line);
+    let (image, rest) = decimal(rest)?;
+    let (mem, rest) = decimal(rest)?;
+    let (depth, rest) = decimal(rest)?;
+    let (mctrctl, rest) = hexadecimal(rest)?;
+    let (vsctrctl, rest) = hexadecimal(rest)?;
+    let (period, _) = decimal(rest)?;
+    Ok(TaskNumbers {
+        image,
+        mem,
+        depth,
+        mctrctl,
+        vsctrctl,
+        period,
+    })
 }
 
 /// The line `task IMAGE MEM DEPTH MCTRCTL VSCTRCTL PERIOD`.
@@ -105,25 +146,20 @@ pub(crate) fn task_row(line: &[u8]) -> Result<TaskLine, Reason>
     if !has_form(line, TASK, 7) {
         return Err(Reason::NotWord);
     }
-    let image = decimal(line, 1)?;
-    let mem = decimal(line, 2)?;
-    let depth = decimal(line, 3)?;
-    let mctrctl = hexadecimal(line, 4)?;
-    let vsctrctl = hexadecimal(line, 5)?;
-    let period = decimal(line, 6)?;
-    if mem < 4 || mem > 1_048_576 || mem % 4 != 0 || image > mem || depth > 4 {
+    let n = task_numbers(line)?;
+    if n.mem < 4 || n.mem > 1_048_576 || n.mem % 4 != 0 || n.image > n.mem || n.depth > 4 {
         return Err(Reason::Range);
     }
-    if mctrctl > u64::MAX as u128 || vsctrctl > u64::MAX as u128 || period > 1_000_000_000 {
+    if n.mctrctl > u64::MAX as u128 || n.vsctrctl > u64::MAX as u128 || n.period > 1_000_000_000 {
         return Err(Reason::Range);
     }
     Ok(TaskLine {
-        image: image as u32,
-        mem: mem as u32,
-        depth: depth as u8,
-        mctrctl: mctrctl as u64,
-        vsctrctl: vsctrctl as u64,
-        period: period as u32,
+        image: n.image as u32,
+        mem: n.mem as u32,
+        depth: n.depth as u8,
+        mctrctl: n.mctrctl as u64,
+        vsctrctl: n.vsctrctl as u64,
+        period: n.period as u32,
     })
 }
 
@@ -149,9 +185,10 @@ pub(crate) fn irq_row(line: &[u8]) -> Result<IrqWords, Reason>
     if !has_form(line, IRQ, 4) {
         return Err(Reason::NotWord);
     }
-    let task = decimal(line, 1)?;
-    let step = decimal(line, 2)?;
-    let cause = decimal(line, 3)?;
+    let (_, rest) = split_word(line);
+    let (task, rest) = decimal(rest)?;
+    let (step, rest) = decimal(rest)?;
+    let (cause, _) = decimal(rest)?;
     if step > 1_000_000_000_000_000 || !is_cause(cause) {
         return Err(Reason::Range);
     }
@@ -174,18 +211,20 @@ pub(crate) fn command_row(line: &[u8]) -> Result<Command, Reason>
     ensures command { result ≡ command_of line.now }
     ensures range { IfOk result IsCommand }
 {
-    if has_form(line, RUN, 4) {
+    let count = word_count(line);
+    let (first, rest) = split_word(line);
+    if count == 4 && first == RUN {
         return run_row(line);
     }
-    if has_form(line, SAMPLE, 2) {
-        let task = decimal(line, 1)?;
+    if count == 2 && first == SAMPLE {
+        let (task, _) = decimal(rest)?;
         return Ok(Command::Sample { task: kept(task) });
     }
-    if has_form(line, EVICT, 2) {
-        let hart = decimal(line, 1)?;
+    if count == 2 && first == EVICT {
+        let (hart, _) = decimal(rest)?;
         return Ok(Command::Evict { hart: kept(hart) });
     }
-    if has_form(line, END, 1) {
+    if count == 1 && first == END {
         return Ok(Command::End);
     }
     Err(Reason::NotWord)
@@ -196,9 +235,10 @@ fn run_row(line: &[u8]) -> Result<Command, Reason>
     ensures run { result ≡ run_of line.now }
     ensures range { IfOk result IsCommand }
 {
-    let hart = decimal(line, 1)?;
-    let task = decimal(line, 2)?;
-    let steps = decimal(line, 3)?;
+    let (_, rest) = split_word(line);
+    let (hart, rest) = decimal(rest)?;
+    let (task, rest) = decimal(rest)?;
+    let (steps, _) = decimal(rest)?;
     if steps > 1_000_000_000 {
         return Err(Reason::Range);
     }

@@ -32,8 +32,8 @@ fn first_space(line: &[u8]) -> usize
     line.len()
 }
 
-// The first word, and what follows the space after it.
-fn split_word(line: &[u8]) -> (&[u8], &[u8])
+/// The first word, and what follows the space after it.
+pub(crate) fn split_word(line: &[u8]) -> (&[u8], &[u8])
     ensures first { result.0.now ≡ word line.now 0 }
     ensures rest { 1 < length (words line.now) → words result.1.now ≡ drop 1 (words line.now) }
 {
@@ -42,18 +42,6 @@ fn split_word(line: &[u8]) -> (&[u8], &[u8])
         [_, after @ ..] => (first, after),
         [] => (first, rest),
     }
-}
-
-/// The word at a place of a line.
-pub(crate) fn word(line: &[u8], place: usize) -> &[u8]
-    requires { place < length (words line.now) }
-    ensures { result.now ≡ word line.now place }
-{
-    let mut rest = line;
-    for _ in 0..place {
-        rest = split_word(rest).1;
-    }
-    split_word(rest).0
 }
 
 // The number that a digit stands for, of either case, or 16.
