@@ -9,7 +9,8 @@ use Rattle.perf_sample.specs.declared.sample.Sample.{Sample}
 use Rattle.perf_sample.specs.Layout.{has, fixed_len, LeftOut, Fits}
 use Rattle.perf_sample.specs.Spelling.{le, present, fields, branch_bytes, spelling, Spells}
 use Rattle.perf_sample.specs.Breaks.{number_at, is_size, first_of, first_break, branch_fields}
-use Rattle.perf_sample.specs.Range.{IsBranch, IsSample}
+use Rattle.perf_sample.specs.BranchRange.{IsBranch}
+use Rattle.perf_sample.specs.Range.{IsSample}
 use Rattle.perf_sample.specs.Reading.{header_bytes}
 use Rattle.perf_sample.proofs.BreakLaws.{length_le, number_read}
 use Rattle.perf_sample.proofs.BranchLaws.{branches_pass}

@@ -15,7 +15,8 @@ use Rattle.perf_sample.specs.declared.faults.SampleFault.TheVariants as fault
 use Rattle.perf_sample.specs.Layout.{has, fixed_len, FlagsFit, Fits}
 use Rattle.perf_sample.specs.Spelling.{le, present, fields, branch_bytes, Spells}
 use Rattle.perf_sample.specs.Breaks.{number_at, is_size, Field, Header, At, rows, row_fields, branch_fields, fields_of, cut_in, wrong_in, or_on, unless, first_of, first_break}
-use Rattle.perf_sample.specs.Range.{IsBranch, IsSample}
+use Rattle.perf_sample.specs.BranchRange.{IsBranch}
+use Rattle.perf_sample.specs.Range.{IsSample}
 use Rattle.perf_sample.specs.Reading.{header_bytes}
 use Rattle.perf_sample.proofs.NumberLaws.{AreBytes, number_back, halves_back, header_back, are_behind, are_before}
 use Rattle.perf_sample.proofs.BreakLaws.{length_le, number_read, number_behind}

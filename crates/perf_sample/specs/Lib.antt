@@ -3,6 +3,7 @@ pub mod Spelling
 pub mod Breaks
 pub mod Reading
 pub mod Rows
+pub mod BranchRange
 pub mod Range
 pub mod Cases
 pub mod Reader

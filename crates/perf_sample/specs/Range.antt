@@ -1,13 +1,8 @@
 -- The numbers of a sample lie in the widths of their fields.
 use Rattle.std.specs.Prelude.{◌^◌, ◌<◌}
 use Rattle.std.specs.List.{All}
-use Rattle.perf_sample.specs.declared.sample.Branch.{Branch}
 use Rattle.perf_sample.specs.declared.sample.Sample.{Sample}
-
-pub record IsBranch (b : Branch) : Type 0 where
-  pub from : b.from < 2 ^ 64
-  pub to : b.to < 2 ^ 64
-  pub flags : b.flags < 2 ^ 64
+use Rattle.perf_sample.specs.BranchRange.{IsBranch}
 
 pub record IsSample (s : Sample) : Type 0 where
   pub misc : s.misc < 2 ^ 16

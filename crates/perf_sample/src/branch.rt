@@ -2,7 +2,7 @@
 
 ghost use Rattle.std.specs.Prelude.{◌≡◌, ◌≤◌, All, IfOk};
 ghost use Rattle.ctr_port.specs.Counts.{Rose};
-ghost use Rattle.perf_sample.specs.Range.{IsBranch};
+ghost use Rattle.perf_sample.specs.BranchRange.{IsBranch};
 ghost use Rattle.perf_sample.specs.Reading.{TakesPlace, TakesNumber, TakesBranch, TakesBranches, TakesNr};
 
 use crate::branches::Branches;

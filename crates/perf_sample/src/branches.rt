@@ -1,6 +1,7 @@
 //! The branch stack of a sample.
 
-ghost use Rattle.std.specs.Prelude.{◌≡◌, ◌<◌, ◌≤◌, [], ◌∷◌, ◌++◌, length};
+ghost use Rattle.std.specs.Prelude.{◌≡◌, ◌<◌, ◌≤◌, [], ◌∷◌, ◌++◌, length, All};
+ghost use Rattle.perf_sample.specs.BranchRange.{IsBranch};
 
 use crate::sample::Branch;
 use arrayvec::ArrayVec;
@@ -13,14 +14,15 @@ pub struct Branches {
 }
 
 impl Model for Branches {
-    ghost use Rattle.std.specs.Prelude.{List, ◌≤◌, length};
+    ghost use Rattle.std.specs.Prelude.{List, ◌≤◌, length, All};
+    ghost use Rattle.perf_sample.specs.BranchRange.{IsBranch};
     ghost use Rattle.perf_sample.specs.declared.sample.Branch.{Branch};
 
     ghost Value = { List Branch };
 
     ghost view = { λ b. b.list.items };
 
-    ghost invariant = { λ b. length b.list.items ≤ 256 };
+    ghost invariant = { λ b. (length b.list.items ≤ 256) × All IsBranch b.list.items };
 }
 
 impl Branches {
@@ -37,6 +39,7 @@ impl Branches {
     pub fn items(&self) -> &[Branch]
         ensures items { result.now ≡ self.now }
         ensures fits { length self.now ≤ 256 }
+        ensures range { All IsBranch self.now }
     {
         self.list.as_slice()
     }

@@ -139,6 +139,8 @@ impl SampleReader {
         ensures again { (fault : SampleFault) → self.old.refused ≡ Some fault → (result ≡ Err fault) × (self.new ≡ self.old) × (source.new ≡ source.old) }
         ensures later { S.faults source.old ≤ S.faults source.new }
         ensures cause { self.old.refused ≡ None → result ≡ Err SampleFault.ReadFault → Rose (S.faults source.old) (S.faults source.new) }
+        // The numbers of a sample lie in the widths of their fields, whatever the source is.
+        ensures range { IfOk result (λ next. IfSome next IsSample) }
         // Of a source that tells its bytes each answer comes wherever its cause is there.
         ensures none { self.old.refused ≡ None → S.left source.old ≡ Some [] → Answers result (Ok None) }
         ensures sample { (s : Sample) (bytes rest : List ℕ) → self.old.refused ≡ None → self.old.given < most → IsSample s → Spells self.old.layout s bytes

@@ -78,9 +78,93 @@ const CUTS_IN_EVERY_FIELD: [Cut; 26] = [
     (111, SampleFault::Short(Place::Flags(0))),
 ];
 
-// Reads all samples: how many there are, the fault after them if there is one, and the offset then.
-fn read_all(layout: Layout, source: &mut MemSource) -> (u32, Option<SampleFault>, u64) {
-    let mut reader = SampleReader::new(layout);
+// Branch 1 of two begins at 32 + 24 = 56.
+const WRONG_IN_TWO_BRANCHES: [Wrong; 7] = [
+    (76, 2, 80, SampleFault::FlagReserved(1)), // bit 33
+    (79, 0x80, 80, SampleFault::FlagReserved(1)), // bit 63
+    (76, 2, 79, SampleFault::Short(Place::Flags(1))), // the flags aren't whole
+    (52, 2, 80, SampleFault::FlagReserved(0)), // of the first
+    (52, 2, 79, SampleFault::FlagReserved(0)), // and the second is cut short
+    (24, 1, 80, SampleFault::Size), // nr 1
+    (24, 3, 80, SampleFault::Size), // nr 3
+];
+
+const CUTS_IN_TWO_BRANCHES: [Cut; 6] = [
+    (56, SampleFault::Short(Place::From(1))),
+    (63, SampleFault::Short(Place::From(1))),
+    (64, SampleFault::Short(Place::To(1))),
+    (71, SampleFault::Short(Place::To(1))),
+    (72, SampleFault::Short(Place::Flags(1))),
+    (79, SampleFault::Short(Place::Flags(1))),
+];
+
+// The last of 255 begins at 32 + 24·254 = 6128.
+const WRONG_IN_255_BRANCHES: [Wrong; 7] = [
+    (76, 2, 6152, SampleFault::FlagReserved(1)),
+    (6148, 2, 6152, SampleFault::FlagReserved(254)), // bit 33
+    (6151, 0x80, 6152, SampleFault::FlagReserved(254)), // bit 63
+    (6148, 2, 6151, SampleFault::Short(Place::Flags(254))),
+    (6, 0x20, 6152, SampleFault::Size), // 6176: the size of 256
+    (24, 0xFE, 6152, SampleFault::Size), // nr 254
+    (25, 1, 6152, SampleFault::Count), // nr 511
+];
+
+const CUTS_IN_255_BRANCHES: [Cut; 6] = [
+    (6128, SampleFault::Short(Place::From(254))),
+    (6135, SampleFault::Short(Place::From(254))),
+    (6136, SampleFault::Short(Place::To(254))),
+    (6143, SampleFault::Short(Place::To(254))),
+    (6144, SampleFault::Short(Place::Flags(254))),
+    (6151, SampleFault::Short(Place::Flags(254))),
+];
+
+// The last of 256 begins at 32 + 24·255 = 6152.
+const WRONG_IN_256_BRANCHES: [Wrong; 9] = [
+    (76, 2, 6176, SampleFault::FlagReserved(1)),
+    (76, 2, 6175, SampleFault::FlagReserved(1)), // and the last is cut short
+    (6172, 2, 6176, SampleFault::FlagReserved(255)), // bit 33
+    (6175, 0x80, 6176, SampleFault::FlagReserved(255)), // bit 63
+    (6172, 2, 6175, SampleFault::Short(Place::Flags(255))),
+    (6, 0x08, 6176, SampleFault::Size), // 6152: the size of 255
+    (6, 0x38, 6176, SampleFault::Size), // 6200: 32 + 24·257
+    (24, 1, 6176, SampleFault::Count), // nr 257
+    (25, 0, 6176, SampleFault::Size), // nr 0
+];
+
+const CUTS_IN_256_BRANCHES: [Cut; 6] = [
+    (6152, SampleFault::Short(Place::From(255))),
+    (6159, SampleFault::Short(Place::From(255))),
+    (6160, SampleFault::Short(Place::To(255))),
+    (6167, SampleFault::Short(Place::To(255))),
+    (6168, SampleFault::Short(Place::Flags(255))),
+    (6175, SampleFault::Short(Place::Flags(255))),
+];
+
+// A source in memory, and how often it was read.
+#[derive(Drop)]
+struct Counted {
+    source: MemSource,
+    reads: u64,
+}
+
+impl Source for Counted {
+    ghost use Rattle.ctr_port.specs.Memory.{source_faults};
+
+    ghost left = { λ s. None };
+
+    ghost faults = { λ s. source_faults s.source };
+
+    fn read(&mut self, buf: &mut [u8]) -> Got {
+        self.reads = self.reads.saturating_add(1);
+        self.source.read(buf)
+    }
+}
+
+// Reads all samples that are left: how many there are, the fault after them if there is one, and the offset then.
+fn read_all<S: Source>(
+    reader: &mut SampleReader,
+    source: &mut S,
+) -> (u32, Option<SampleFault>, u64) {
     let mut samples = 0u32;
     for _ in 0..100 {
         match reader.next(source) {
@@ -96,8 +180,34 @@ fn read_all(layout: Layout, source: &mut MemSource) -> (u32, Option<SampleFault>
     (samples, None, reader.offset())
 }
 
-// The whole sample comes first, and then these bytes.
+// After so many samples, which have so many bytes together, there is a fault, and it is told again without a read.
 fn refused(
+    rt: &impl Abort,
+    alloc: Global,
+    layout: Layout,
+    bytes: &[u8],
+    samples: u32,
+    offset: u64,
+    fault: SampleFault,
+) -> Result<(), Fail> {
+    for piece in [1, 7, 4096] {
+        let mut source = Counted {
+            source: MemSource::new(alloc, bytes, &[piece], &[])?,
+            reads: 0,
+        };
+        let mut reader = SampleReader::new(layout);
+        let answer = read_all(&mut reader, &mut source);
+        assert_eq!(rt; answer, (samples, Some(fault), offset), "{bytes:?}");
+        let reads = source.reads;
+        let again = read_all(&mut reader, &mut source);
+        assert_eq!(rt; again, (0, Some(fault), offset), "{bytes:?}");
+        assert_eq!(rt; source.reads, reads, "{bytes:?}");
+    }
+    Ok(())
+}
+
+// The bytes are refused as the first sample, and behind a whole one.
+fn refused_anywhere(
     rt: &impl Abort,
     alloc: Global,
     layout: Layout,
@@ -105,17 +215,10 @@ fn refused(
     bytes: &[u8],
     fault: SampleFault,
 ) -> Result<(), Fail> {
+    refused(rt, alloc, layout, bytes, 0, 0, fault)?;
     let mut text = Vec::from_slice(alloc, whole)?;
     text.extend_from_slice(bytes)?;
-    for piece in [1, 7, 4096] {
-        let mut source = MemSource::new(alloc, &text, &[piece], &[])?;
-        assert_eq!(rt;
-            read_all(layout, &mut source),
-            (1, Some(fault), whole.len() as u64),
-            "{bytes:?}"
-        );
-    }
-    Ok(())
+    refused(rt, alloc, layout, &text, 1, whole.len() as u64, fault)
 }
 
 fn each_is_refused(
@@ -129,13 +232,13 @@ fn each_is_refused(
     let layout = Layout::of(layout).ok_or("a layout")?;
     for (len, fault) in cuts {
         let front = whole.get(..*len).ok_or("a front")?;
-        refused(rt, alloc, layout, whole, front, *fault)?;
+        refused_anywhere(rt, alloc, layout, whole, front, *fault)?;
     }
     for (at, byte, len, fault) in wrongs {
         let mut bytes = Vec::from_slice(alloc, whole)?;
         bytes.truncate(*len);
         *bytes.get_mut(*at).ok_or("a byte")? = *byte;
-        refused(rt, alloc, layout, whole, &bytes, *fault)?;
+        refused_anywhere(rt, alloc, layout, whole, &bytes, *fault)?;
     }
     Ok(())
 }
@@ -161,6 +264,52 @@ fn each_field_is_refused_where_it_breaks(rt: HostRuntime) -> Result<(), Fail> {
         &EVERY_FIELD,
         &WRONG_IN_EVERY_FIELD,
         &CUTS_IN_EVERY_FIELD,
+    )
+}
+
+// The same of a sample with ip, pid, tid and so many branches.
+fn each_is_refused_among(
+    rt: &impl Abort,
+    alloc: Global,
+    branches: u16,
+    wrongs: &[Wrong],
+    cuts: &[Cut],
+) -> Result<(), Fail> {
+    let layout = Layout::of(0x803).ok_or("a layout")?;
+    let out = written(layout, &filled(rt, layout, branches))?;
+    each_is_refused(rt, alloc, 0x803, out.as_slice(), wrongs, cuts)
+}
+
+#[test]
+fn a_break_in_the_second_branch_names_it(rt: HostRuntime) -> Result<(), Fail> {
+    each_is_refused_among(
+        &rt,
+        rt.alloc(),
+        2,
+        &WRONG_IN_TWO_BRANCHES,
+        &CUTS_IN_TWO_BRANCHES,
+    )
+}
+
+#[test]
+fn a_break_in_the_last_of_255_branches_names_it(rt: HostRuntime) -> Result<(), Fail> {
+    each_is_refused_among(
+        &rt,
+        rt.alloc(),
+        255,
+        &WRONG_IN_255_BRANCHES,
+        &CUTS_IN_255_BRANCHES,
+    )
+}
+
+#[test]
+fn a_break_in_the_last_of_256_branches_names_it(rt: HostRuntime) -> Result<(), Fail> {
+    each_is_refused_among(
+        &rt,
+        rt.alloc(),
+        256,
+        &WRONG_IN_256_BRANCHES,
+        &CUTS_IN_256_BRANCHES,
     )
 }
 
@@ -254,7 +403,7 @@ fn come_back(
 fn samples_of_each_layout_come_back(rt: HostRuntime) -> Result<(), Fail> {
     for bits in 0..0x2_0000u64 {
         if let Some(layout) = Layout::of(bits) {
-            for piece in [1, 7, 4096] {
+            for piece in [1, 2, 7, 4095, 4096, 4097] {
                 come_back(&rt, rt.alloc(), layout, &[2, 0, 1], piece)?;
             }
         }
@@ -263,10 +412,12 @@ fn samples_of_each_layout_come_back(rt: HostRuntime) -> Result<(), Fail> {
 }
 
 #[test]
-fn two_hundred_and_fifty_six_branches_come_back(rt: HostRuntime) -> Result<(), Fail> {
+fn up_to_two_hundred_and_fifty_six_branches_come_back(rt: HostRuntime) -> Result<(), Fail> {
     for bits in [0x800, 0x803, 0x883, 0x904, 0x10BCF] {
         let layout = Layout::of(bits).ok_or("a layout")?;
-        come_back(&rt, rt.alloc(), layout, &[256, 16, 256], 4096)?;
+        for piece in [1, 2, 7, 4095, 4096, 4097] {
+            come_back(&rt, rt.alloc(), layout, &[256, 16, 256, 255], piece)?;
+        }
     }
     Ok(())
 }
@@ -359,7 +510,10 @@ fn a_failing_read_is_told_and_told_again(rt: HostRuntime) -> Result<(), Fail> {
     let layout = Layout::of(0x803).ok_or("a layout")?;
     // 56 bytes in reads of one byte, and one more read that looks past the end.
     for call in 0..57u64 {
-        let mut source = MemSource::new(rt.alloc(), &ONE_CALL, &[1], &[call])?;
+        let mut source = Counted {
+            source: MemSource::new(rt.alloc(), &ONE_CALL, &[1], &[call])?,
+            reads: 0,
+        };
         let mut reader = SampleReader::new(layout);
         let mut wanted = (Err(SampleFault::ReadFault), 0);
         if call == 56 {
@@ -368,45 +522,82 @@ fn a_failing_read_is_told_and_told_again(rt: HostRuntime) -> Result<(), Fail> {
         }
         assert_eq!(rt; step(&mut reader, &mut source), wanted, "at {call}");
         assert_eq!(rt; step(&mut reader, &mut source), wanted, "at {call}");
+        assert_eq!(rt; source.reads, call + 1);
     }
     Ok(())
 }
 
-// The smallest samples without an end: those of the layout 800 with no branches, in two fields.
+// The smallest samples, those of the layout 800 with no branches: so many fields, a header and the number of branches in turn. A
+// byte may follow them.
 #[derive(Drop)]
-struct Endless {
-    inside: bool,
+struct Smallest {
+    fields: u32,
+    byte_follows: bool,
+    reads: u64,
 }
 
-impl Source for Endless {
+impl Source for Smallest {
     ghost left = { λ s. None };
 
     ghost faults = { λ s. 0 };
 
     fn read(&mut self, buf: &mut [u8]) -> Got {
-        let field = if self.inside {
-            [0; 8]
-        } else {
+        self.reads = self.reads.saturating_add(1);
+        if self.fields == 0 {
+            if !self.byte_follows {
+                return Got::End;
+            }
+            self.byte_follows = false;
+            buf[0] = 9;
+            return Got::Bytes(1);
+        }
+        let field = if self.fields % 2 == 0 {
             [9, 0, 0, 0, 0, 0, 16, 0]
+        } else {
+            [0; 8]
         };
-        self.inside = !self.inside;
+        self.fields -= 1;
         let count = buf.len().min(8);
         buf[..count].copy_from_slice(&field[..count]);
         Got::Bytes(count)
     }
 }
 
-#[test]
-fn two_to_the_24_samples_are_given(rt: HostRuntime) -> Result<(), Fail> {
+// A reader that was given 2^24 samples, each of 16 bytes in two reads.
+fn full(rt: &impl Abort, source: &mut Smallest) -> Result<SampleReader, Fail> {
     let layout = Layout::of(0x800).ok_or("a layout")?;
-    let mut source = Endless { inside: false };
     let mut reader = SampleReader::new(layout);
-    for _ in 0..0x100_0000u32 {
-        assert!(rt; reader.next(&mut source).is_ok());
+    for number in 0..0x100_0000u64 {
+        let wanted = (Ok(Some(0)), 16 * number);
+        assert_eq!(rt; step(&mut reader, source), wanted);
     }
-    assert_eq!(rt; reader.offset(), 0xFFF_FFF0);
+    Ok(reader)
+}
+
+#[test]
+fn the_input_may_end_after_two_to_the_24_samples(rt: HostRuntime) -> Result<(), Fail> {
+    let mut source = Smallest {
+        fields: 0x200_0000,
+        byte_follows: false,
+        reads: 0,
+    };
+    let mut reader = full(&rt, &mut source)?;
+    assert_eq!(rt; step(&mut reader, &mut source), (Ok(None), 0xFFF_FFF0));
+    assert_eq!(rt; step(&mut reader, &mut source), (Ok(None), 0xFFF_FFF0));
+    Ok(())
+}
+
+#[test]
+fn a_byte_behind_two_to_the_24_samples_is_too_many(rt: HostRuntime) -> Result<(), Fail> {
+    let mut source = Smallest {
+        fields: 0x200_0000,
+        byte_follows: true,
+        reads: 0,
+    };
+    let mut reader = full(&rt, &mut source)?;
     let many = (Err(SampleFault::TooMany), 0x1000_0000);
     assert_eq!(rt; step(&mut reader, &mut source), many);
     assert_eq!(rt; step(&mut reader, &mut source), many);
+    assert_eq!(rt; source.reads, 0x200_0001);
     Ok(())
 }

@@ -1,9 +1,11 @@
 //! A sample as bytes.
 
-ghost use Rattle.std.specs.Prelude.{◌≡◌, ◌+◌, ◌*◌, ◌≤◌, ◌<◌, ◌^◌, ◌++◌, length};
+ghost use Rattle.std.specs.Prelude.{◌≡◌, ◌+◌, ◌*◌, ◌≤◌, ◌<◌, ◌^◌, ◌++◌, length, All};
 ghost use Rattle.std.specs.List.{flat_map};
 ghost use Rattle.arrayvec.specs.ArrayVec.{array_vec_len};
 ghost use Rattle.perf_sample.specs.Layout.{width, fields_len, fixed_len, Fits};
+ghost use Rattle.perf_sample.specs.BranchRange.{IsBranch};
+ghost use Rattle.perf_sample.specs.Range.{IsSample};
 ghost use Rattle.perf_sample.specs.Spelling.{le, present, fields, branch_bytes, Spells};
 
 use crate::layout::{ADDR, CPU, ID, IDENTIFIER, IP, Layout, PERIOD, STREAM_ID, TID, TIME};
@@ -27,6 +29,7 @@ fn put_u16(out: &mut Buffer, number: u16)
     requires { array_vec_len out.old + 2 ≤ 9216 }
     ensures items { out.new.items ≡ out.old.items ++ le 2 number }
     ensures len { array_vec_len out.new ≡ array_vec_len out.old + 2 }
+    ensures range { number < 2 ^ 16 }
 {
     let mut bytes = [0; 2];
     LittleEndian::write_u16(&mut bytes, number);
@@ -62,6 +65,7 @@ fn put_field(out: &mut Buffer, layout: Layout, place: u32, number: u64)
     ensures items { out.new.items ≡ out.old.items ++ present layout place (le 8 number) }
     ensures len { array_vec_len out.new ≡ array_vec_len out.old + width layout place }
     ensures most { array_vec_len out.new ≤ array_vec_len out.old + 8 }
+    ensures range { number < 2 ^ 64 }
 {
     if layout.has(place) {
         put_u64(out, number);
@@ -75,6 +79,7 @@ fn put_pair(out: &mut Buffer, layout: Layout, place: u32, first: u32, second: u3
     ensures items { out.new.items ≡ out.old.items ++ present layout place (le 4 first ++ le 4 second) }
     ensures len { array_vec_len out.new ≡ array_vec_len out.old + width layout place }
     ensures most { array_vec_len out.new ≤ array_vec_len out.old + 8 }
+    ensures range { (first < 2 ^ 32) × (second < 2 ^ 32) }
 {
     if layout.has(place) {
         put_u32(out, first);
@@ -88,6 +93,7 @@ fn put_fields(out: &mut Buffer, layout: Layout, sample: &Sample)
     ensures items { out.new.items ≡ out.old.items ++ fields layout sample.now }
     ensures len { array_vec_len out.new ≡ array_vec_len out.old + fields_len layout }
     ensures room { array_vec_len out.new ≤ 80 }
+    ensures range { sample.now.misc < 2 ^ 16 → All IsBranch sample.now.branches → IsSample sample.now }
 {
     put_field(out, layout, IDENTIFIER, sample.identifier);
     put_field(out, layout, IP, sample.ip);
@@ -125,6 +131,8 @@ pub fn encode(layout: Layout, sample: &Sample, out: &mut ArrayVec<u8, 9216>)
     ensures spells { Spells layout sample.now out.new.items }
     // The field size of the header tells the truth.
     ensures size { length out.new.items ≡ fixed_len layout + 24 * length sample.now.branches }
+    // The numbers of the sample lie in the widths of their fields, so it is the one sample with these bytes.
+    ensures range { IsSample sample.now }
 {
     let branches = sample.branches.items();
     out.clear();

@@ -2,7 +2,7 @@ use Rattle.std.proofs.Common.{◌≡◌, ◌≤◌, length}
 use Rattle.std.specs.Io.KnownBytes.{Consumes}
 use Rattle.std.specs.List.{flat_map, All}
 use Rattle.perf_sample.specs.Layout.{FlagsFit}
-use Rattle.perf_sample.specs.Range.{IsBranch}
+use Rattle.perf_sample.specs.BranchRange.{IsBranch}
 use Rattle.perf_sample.specs.Spelling.{branch_bytes}
 use Rattle.perf_sample.proofs.branch.read_branches.Given as goal
 
