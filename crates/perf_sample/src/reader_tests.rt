@@ -584,6 +584,7 @@ fn the_input_may_end_after_two_to_the_24_samples(rt: HostRuntime) -> Result<(), 
     let mut reader = full(&rt, &mut source)?;
     assert_eq!(rt; step(&mut reader, &mut source), (Ok(None), 0xFFF_FFF0));
     assert_eq!(rt; step(&mut reader, &mut source), (Ok(None), 0xFFF_FFF0));
+    assert_eq!(rt; source.reads, 0x200_0002);
     Ok(())
 }
 
