@@ -1,4 +1,4 @@
-ghost use Rattle.std.specs.Prelude.{◌≡◌, Some};
+ghost use Rattle.std.specs.Prelude.{◌≡◌, ◌<◌, IfOk};
 ghost use Rattle.sched_text.specs.Reader.{fresh, widened};
 
 use super::*;
@@ -76,6 +76,7 @@ fn read_all(
     source: &mut MemSource,
 ) -> Result<Answers, Fail>
     requires { reader.old ≡ fresh }
+    ensures { IfOk result (λ answers. reader.new.refused ≡ answers.fault) }
 {
     let mut images = Vec::new(alloc);
     let mut commands = Vec::new(alloc);
@@ -159,7 +160,7 @@ fn comes_to(
     Ok(())
 }
 
-// Reads a line behind a front, for each line, and compares that it is the first that is refused, and why.
+// Reads each text behind a front in pieces of six lengths, and compares which line is refused, and why.
 fn refuses_each(
     rt: &impl Abort,
     alloc: Global,
@@ -172,6 +173,24 @@ fn refuses_each(
         let mut text = Vec::from_slice(alloc, front)?;
         text.extend_from_slice(row.as_bytes())?;
         comes_to(rt, alloc, row, &text, commands, refused(line, *reason))?;
+    }
+    Ok(())
+}
+
+// The same in pieces of 4,096 bytes alone.
+fn refuses_each_at_once(
+    rt: &impl Abort,
+    alloc: Global,
+    front: &[u8],
+    line: u32,
+    commands: usize,
+    refusals: &[(&str, Reason)],
+) -> Result<(), Fail> {
+    for (row, reason) in refusals {
+        let mut text = Vec::from_slice(alloc, front)?;
+        text.extend_from_slice(row.as_bytes())?;
+        let fault = refused(line, *reason);
+        comes_in_pieces_to(rt, alloc, row, &text, 4096, commands, fault)?;
     }
     Ok(())
 }

@@ -61,7 +61,6 @@ fn a_cut_in_the_second_image_is_charged_to_the_line_images(rt: HostRuntime) -> R
             bytes,
         )?;
     }
-    // Line 7 ends with byte 93 or 95 of the text.
     for bytes in [5000, 5001, 8191, 8192, 8193, 9999] {
         cut_in_the_second_image(
             &rt,

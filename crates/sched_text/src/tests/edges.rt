@@ -32,7 +32,10 @@ fn the_first_and_the_last_numbers_of_harts_are_taken(rt: HostRuntime) -> Result<
 
 #[test]
 fn a_version_may_have_leading_zeros(rt: HostRuntime) -> Result<(), Fail> {
-    for line in ["ctr-schedule 1\n", "ctr-schedule 00000000000000000000000001\n"] {
+    for line in [
+        "ctr-schedule 1\n",
+        "ctr-schedule 00000000000000000000000001\n",
+    ] {
         let parts = [line, "harts 1\nlayout 803\n", TASK, "images\n"];
         let header = header_of(rt.alloc(), &parts)?;
         assert_eq!(rt; header.tasks.items().len(), 1, "{line}");
@@ -122,7 +125,11 @@ fn task_of(numbers: (u32, u32, u8, u64, u64, u32)) -> TaskLine {
 fn the_first_and_the_last_numbers_of_a_task_are_taken(rt: HostRuntime) -> Result<(), Fail> {
     for (line, numbers) in TASKS {
         let header = header_of(rt.alloc(), &[START, line, "images\n"])?;
-        assert_eq!(rt; header.tasks.items(), [task_of(*numbers)].as_slice(), "{line}");
+        assert_eq!(rt;
+            header.tasks.items(),
+            [task_of(*numbers)].as_slice(),
+            "{line}"
+        );
     }
     Ok(())
 }
@@ -263,7 +270,10 @@ const COMMANDS: &[(&str, Command)] = &[
             task: 0xFFFF_FFFF_FFFF_FFFF,
         },
     ),
-    ("sample 00000000000000000064\n", Command::Sample { task: 64 }),
+    (
+        "sample 00000000000000000064\n",
+        Command::Sample { task: 64 },
+    ),
     ("evict 0\n", Command::Evict { hart: 0 }),
     ("evict 16\n", Command::Evict { hart: 16 }),
     (

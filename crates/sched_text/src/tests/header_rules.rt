@@ -1,4 +1,4 @@
-use super::{START, TASK, joined, refuses_each, repeat};
+use super::{START, TASK, joined, refuses_each, refuses_each_at_once, repeat};
 use crate::Reason;
 use std::alloc::Global;
 use std::test::*;
@@ -107,6 +107,7 @@ const TASKS: &[(&str, Reason)] = &[
     ("task 4 6 0 4 0 y\n", Reason::NotNumber), // before the range of its memory
     ("task 9 8 0 4 0 0\n", Reason::Range), // the image is longer than the memory
     ("task 1 0 0 4 0 0\n", Reason::Range),
+    ("task 1048577 1048576 0 4 0 0\n", Reason::Range),
     ("task 4294967300 8 0 4 0 0\n", Reason::Range), // 2^32 + 4
     ("task 18446744073709551616 8 0 4 0 0\n", Reason::Range), // 2^64
     ("task 0 0 0 4 0 0\n", Reason::Range),
@@ -189,14 +190,7 @@ const OUT_OF_ORDER: &[(&str, Reason)] = &[
 fn each_rule_of_the_first_three_lines_refuses_its_line(rt: HostRuntime) -> Result<(), Fail> {
     refuses_each(&rt, rt.alloc(), b"", 1, 0, VERSIONS)?;
     refuses_each(&rt, rt.alloc(), b"ctr-schedule 1\n", 2, 0, HARTS)?;
-    refuses_each(
-        &rt,
-        rt.alloc(),
-        b"ctr-schedule 1\nharts 1\n",
-        3,
-        0,
-        LAYOUTS,
-    )
+    refuses_each(&rt, rt.alloc(), b"ctr-schedule 1\nharts 1\n", 3, 0, LAYOUTS)
 }
 
 #[test]
@@ -239,34 +233,35 @@ fn nearly_all_irqs(alloc: Global) -> Result<Vec<u8>, Fail> {
 
 #[test]
 fn each_rule_refuses_the_last_irq_line(rt: HostRuntime) -> Result<(), Fail> {
+    let front = nearly_all_irqs(rt.alloc())?;
+    refuses_each_at_once(&rt, rt.alloc(), &front, 1028, 0, IRQS)?;
+    refuses_each(&rt, rt.alloc(), &front, 1028, 0, LAST)
+}
+
+// In place of the last irq line of the task, behind `irq 0 1022 3`.
+const LAST: &[(&str, Reason)] = &[
+    ("irq 0 1023 3", Reason::Cut),
+    ("irq 0 1023\n", Reason::NotWord),
+    ("irq 0 1023 x\n", Reason::NotNumber),
+    ("irq 0 1023 4\n", Reason::Range),
+    ("irq 1 1023 3\n", Reason::NoTask),
+    ("irq 0 1021 13\n", Reason::IrqOrder),
+    ("irq 0 1022 2\n", Reason::IrqOrder),
+    ("irq 0 1022 3\n", Reason::IrqOrder),
+];
+
+// Behind the last irq line that the task may have.
+const ONE_MORE: &[(&str, Reason)] = &[
+    ("irq 0 1023 3\n", Reason::TooMany),
+    ("irq 0 0 1\n", Reason::TooMany), // before the order
+    ("irq 0 1023 4\n", Reason::Range), // before the number of lines
+    ("irq 1 1023 3\n", Reason::NoTask),
+    ("images\n", Reason::Cut), // in the image
+];
+
+#[test]
+fn irq_line_1025_of_a_task_is_too_many(rt: HostRuntime) -> Result<(), Fail> {
     let mut front = nearly_all_irqs(rt.alloc())?;
-    refuses_each(&rt, rt.alloc(), &front, 1028, 0, IRQS)?;
-    refuses_each(
-        &rt,
-        rt.alloc(),
-        &front,
-        1028,
-        0,
-        &[
-            ("irq 0 1021 13\n", Reason::IrqOrder),
-            ("irq 0 1022 2\n", Reason::IrqOrder),
-            ("irq 0 1022 3\n", Reason::IrqOrder),
-        ],
-    )?;
-    // One line more, which is the last that the task may have.
     front.extend_from_slice(b"irq 0 1022 5\n")?;
-    refuses_each(
-        &rt,
-        rt.alloc(),
-        &front,
-        1029,
-        0,
-        &[
-            ("irq 0 1023 3\n", Reason::TooMany),
-            ("irq 0 0 1\n", Reason::TooMany), // before the order
-            ("irq 0 1023 4\n", Reason::Range), // before the number of lines
-            ("irq 1 1023 3\n", Reason::NoTask),
-            ("images\n", Reason::Cut), // in the image
-        ],
-    )
+    refuses_each(&rt, rt.alloc(), &front, 1029, 0, ONE_MORE)
 }

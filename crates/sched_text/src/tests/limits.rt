@@ -1,4 +1,6 @@
-use super::{IMAGE, START, TASK, comes_in_pieces_to, joined, refused, refuses_each, repeat};
+use super::{
+    IMAGE, START, TASK, comes_in_pieces_to, joined, refuses_each, refuses_each_at_once, repeat,
+};
 use crate::Reason;
 use std::alloc::Global;
 use std::process::Abort;
@@ -85,7 +87,14 @@ fn ends_of_a_long_line(rt: &impl Abort, alloc: Global, place: &Place) -> Result<
     refuses_each(rt, alloc, &text, place.line, before, NUMBER_ENDS)?;
     // 255 bytes and a line feed: the line is taken, and the next one isn't there.
     let next = place.line.saturating_add(1);
-    refuses_each(rt, alloc, &text, next, place.commands, &[("1\n", Reason::Cut)])
+    refuses_each(
+        rt,
+        alloc,
+        &text,
+        next,
+        place.commands,
+        &[("1\n", Reason::Cut)],
+    )
 }
 
 #[test]
@@ -184,96 +193,107 @@ fn all_irqs(alloc: Global) -> Result<Vec<u8>, Fail> {
     Ok(text)
 }
 
+// Where there is no irq line more.
+const BEHIND_ALL_IRQS: &[(&str, Reason)] = &[
+    ("irq 0 1024 3\n", Reason::TooMany),
+    ("irq 63 1024 3\n", Reason::TooMany),
+    ("irq 64 1024 3\n", Reason::NoTask),
+    ("task 0 4 0 4 0 0\n", Reason::NotWord),
+    ("images", Reason::Cut),
+];
+
 #[test]
 fn there_are_1024_irq_lines_of_each_task_at_most(rt: HostRuntime) -> Result<(), Fail> {
-    let text = all_irqs(rt.alloc())?;
-    ends_at_once(
-        &rt,
-        rt.alloc(),
-        &text,
-        0,
-        &[
-            ("irq 0 1024 3\n", Some((65604, Reason::TooMany))),
-            ("irq 63 1024 3\n", Some((65604, Reason::TooMany))),
-            ("irq 64 1024 3\n", Some((65604, Reason::NoTask))),
-            ("images\n", Some((65605, Reason::Cut))),
-            ("images\nend\nx", Some((65606, Reason::Trailing))),
-            ("images\nend\n", None),
-        ],
-    )
+    let mut text = all_irqs(rt.alloc())?;
+    refuses_each_at_once(&rt, rt.alloc(), &text, 65604, 0, BEHIND_ALL_IRQS)?;
+    text.extend_from_slice(b"images\nend\n")?;
+    comes_in_pieces_to(&rt, rt.alloc(), "all irq lines", &text, 4096, 0, None)
 }
 
-// Reads a text with each of these ends, in pieces of 4,096 bytes.
-fn ends_at_once(
-    rt: &impl Abort,
-    alloc: Global,
-    front: &[u8],
-    commands: usize,
-    ends: &[(&str, Option<(u32, Reason)>)],
-) -> Result<(), Fail> {
-    for (end, refusal) in ends {
-        let mut text = Vec::from_slice(alloc, front)?;
-        text.extend_from_slice(end.as_bytes())?;
-        let fault = match *refusal {
-            Some((line, reason)) => refused(line, reason),
-            None => None,
-        };
-        comes_in_pieces_to(rt, alloc, end, &text, 4096, commands, fault)?;
-    }
-    Ok(())
-}
-
-// Five lines and an image, and behind them all command lines that there may be but one, which are 4 times 2^18 less 1.
+// Five lines, an image, and all command lines that there may be but one: 2^20 less 1.
 fn nearly_all_commands(alloc: Global) -> Result<Vec<u8>, Fail> {
     let mut lines = joined(alloc, &["run 0 0 1\nevict 0\nsample 0\nsample 0\n"])?;
     for _ in 0..18 {
         let half = Vec::from_slice(alloc, &lines)?;
         lines.extend_from_slice(&half)?;
     }
+    // Without the last line `sample 0`.
     lines.truncate(lines.len().saturating_sub(9));
     let mut text = joined(alloc, &[START, TASK, IMAGE])?;
     text.extend_from_slice(&lines)?;
     Ok(text)
 }
 
+fn refuses_the_last_command_line(
+    rt: &impl Abort,
+    alloc: Global,
+    refusal: (&str, Reason),
+) -> Result<(), Fail> {
+    let text = nearly_all_commands(alloc)?;
+    refuses_each_at_once(rt, alloc, &text, 1_048_581, 1_048_575, &[refusal])
+}
+
+fn refuses_one_command_line_more(
+    rt: &impl Abort,
+    alloc: Global,
+    refusal: (&str, Reason),
+) -> Result<(), Fail> {
+    let mut text = nearly_all_commands(alloc)?;
+    text.extend_from_slice(b"sample 0\n")?;
+    refuses_each_at_once(rt, alloc, &text, 1_048_582, 1_048_576, &[refusal])
+}
+
 #[test]
-fn each_rule_refuses_the_last_command_line(rt: HostRuntime) -> Result<(), Fail> {
-    let text = nearly_all_commands(rt.alloc())?;
-    ends_at_once(
+fn the_end_is_missed_in_place_of_the_last_command_line(rt: HostRuntime) -> Result<(), Fail> {
+    refuses_the_last_command_line(&rt, rt.alloc(), ("", Reason::Cut))
+}
+
+#[test]
+fn the_last_command_line_may_have_unexpected_words(rt: HostRuntime) -> Result<(), Fail> {
+    refuses_the_last_command_line(&rt, rt.alloc(), ("sample\n", Reason::NotWord))
+}
+
+#[test]
+fn the_last_command_line_may_have_no_number(rt: HostRuntime) -> Result<(), Fail> {
+    refuses_the_last_command_line(&rt, rt.alloc(), ("sample x\n", Reason::NotNumber))
+}
+
+#[test]
+fn the_last_command_line_may_be_out_of_range(rt: HostRuntime) -> Result<(), Fail> {
+    let refusal = ("run 0 0 1000000001\n", Reason::Range);
+    refuses_the_last_command_line(&rt, rt.alloc(), refusal)
+}
+
+#[test]
+fn there_may_be_1048576_command_lines_and_the_end(rt: HostRuntime) -> Result<(), Fail> {
+    let mut text = nearly_all_commands(rt.alloc())?;
+    text.extend_from_slice(b"sample 0\nend\n")?;
+    comes_in_pieces_to(
         &rt,
         rt.alloc(),
+        "all command lines",
         &text,
-        1_048_575,
-        &[
-            ("", Some((1_048_581, Reason::Cut))),
-            ("sample\n", Some((1_048_581, Reason::NotWord))),
-            ("sample x\n", Some((1_048_581, Reason::NotNumber))),
-            ("run 0 0 1000000001\n", Some((1_048_581, Reason::Range))),
-            ("end\nx", Some((1_048_582, Reason::Trailing))),
-            ("end\n", None),
-        ],
+        4096,
+        1_048_576,
+        None,
     )
 }
 
 #[test]
-fn there_are_1048576_command_lines_at_most(rt: HostRuntime) -> Result<(), Fail> {
+fn command_line_1048577_is_too_many(rt: HostRuntime) -> Result<(), Fail> {
+    refuses_one_command_line_more(&rt, rt.alloc(), ("sample 0\n", Reason::TooMany))
+}
+
+#[test]
+fn command_line_1048577_is_out_of_range_before_it_is_too_many(rt: HostRuntime) -> Result<(), Fail> {
+    let refusal = ("run 0 0 1000000001\n", Reason::Range);
+    refuses_one_command_line_more(&rt, rt.alloc(), refusal)
+}
+
+#[test]
+fn nothing_follows_the_end_behind_all_command_lines(rt: HostRuntime) -> Result<(), Fail> {
     let mut text = nearly_all_commands(rt.alloc())?;
     text.extend_from_slice(b"sample 0\n")?;
-    ends_at_once(
-        &rt,
-        rt.alloc(),
-        &text,
-        1_048_576,
-        &[
-            ("end\n", None), // it isn't counted
-            ("end\nx", Some((1_048_583, Reason::Trailing))),
-            ("", Some((1_048_582, Reason::Cut))),
-            ("run 0 0 1\n", Some((1_048_582, Reason::TooMany))),
-            ("sample 0\n", Some((1_048_582, Reason::TooMany))),
-            ("evict 0\n", Some((1_048_582, Reason::TooMany))),
-            ("run 0 0 1000000001\n", Some((1_048_582, Reason::Range))), // before the number of lines
-            ("sample x\n", Some((1_048_582, Reason::NotNumber))),
-            ("sample\n", Some((1_048_582, Reason::NotWord))),
-        ],
-    )
+    let refusal = ("end\nx", Reason::Trailing);
+    refuses_each_at_once(&rt, rt.alloc(), &text, 1_048_583, 1_048_576, &[refusal])
 }

@@ -1,3 +1,5 @@
+ghost use Rattle.std.specs.Prelude.{◌<◌};
+
 use super::{Answers, SCHEDULE, comes_to, joined, read_all};
 use crate::{Command, ScheduleReader};
 use ctr_port::MemSource;
