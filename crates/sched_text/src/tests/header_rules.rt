@@ -1,4 +1,4 @@
-use super::{START, TASK, joined, refuses_each, refuses_each_at_once, repeat};
+use super::{START, TASK, joined, refuses_each, repeat};
 use crate::Reason;
 use std::alloc::Global;
 use std::test::*;
@@ -231,13 +231,6 @@ fn nearly_all_irqs(alloc: Global) -> Result<Vec<u8>, Fail> {
     Ok(front)
 }
 
-#[test]
-fn each_rule_refuses_the_last_irq_line(rt: HostRuntime) -> Result<(), Fail> {
-    let front = nearly_all_irqs(rt.alloc())?;
-    refuses_each_at_once(&rt, rt.alloc(), &front, 1028, 0, IRQS)?;
-    refuses_each(&rt, rt.alloc(), &front, 1028, 0, LAST)
-}
-
 // In place of the last irq line of the task, behind `irq 0 1022 3`.
 const LAST: &[(&str, Reason)] = &[
     ("irq 0 1023 3", Reason::Cut),
@@ -249,6 +242,12 @@ const LAST: &[(&str, Reason)] = &[
     ("irq 0 1022 2\n", Reason::IrqOrder),
     ("irq 0 1022 3\n", Reason::IrqOrder),
 ];
+
+#[test]
+fn each_rule_refuses_the_last_irq_line(rt: HostRuntime) -> Result<(), Fail> {
+    let front = nearly_all_irqs(rt.alloc())?;
+    refuses_each(&rt, rt.alloc(), &front, 1028, 0, LAST)
+}
 
 // Behind the last irq line that the task may have.
 const ONE_MORE: &[(&str, Reason)] = &[

@@ -244,22 +244,22 @@ fn refuses_one_command_line_more(
 }
 
 #[test]
-fn the_end_is_missed_in_place_of_the_last_command_line(rt: HostRuntime) -> Result<(), Fail> {
+fn an_input_that_ends_before_the_last_command_line_is_cut(rt: HostRuntime) -> Result<(), Fail> {
     refuses_the_last_command_line(&rt, rt.alloc(), ("", Reason::Cut))
 }
 
 #[test]
-fn the_last_command_line_may_have_unexpected_words(rt: HostRuntime) -> Result<(), Fail> {
+fn unexpected_words_are_refused_in_the_last_command_line(rt: HostRuntime) -> Result<(), Fail> {
     refuses_the_last_command_line(&rt, rt.alloc(), ("sample\n", Reason::NotWord))
 }
 
 #[test]
-fn the_last_command_line_may_have_no_number(rt: HostRuntime) -> Result<(), Fail> {
+fn what_is_no_number_is_refused_in_the_last_command_line(rt: HostRuntime) -> Result<(), Fail> {
     refuses_the_last_command_line(&rt, rt.alloc(), ("sample x\n", Reason::NotNumber))
 }
 
 #[test]
-fn the_last_command_line_may_be_out_of_range(rt: HostRuntime) -> Result<(), Fail> {
+fn a_number_out_of_range_is_refused_in_the_last_command_line(rt: HostRuntime) -> Result<(), Fail> {
     let refusal = ("run 0 0 1000000001\n", Reason::Range);
     refuses_the_last_command_line(&rt, rt.alloc(), refusal)
 }
