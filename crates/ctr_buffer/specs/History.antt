@@ -6,16 +6,8 @@ use Rattle.ctr_csrs.specs.declared.depth.Depth.TheVariants.{D16}
 use Rattle.ctr_csrs.specs.Depths.{entries_of}
 use Rattle.ctr_buffer.specs.declared.event.Event.{Event}
 use Rattle.ctr_buffer.specs.declared.event.Event.TheVariants.{Push, Swap, Pop, Clear, SetDepth, Turn, Poke}
-use Rattle.ctr_buffer.specs.declared.event.Part.{Part}
-use Rattle.ctr_buffer.specs.declared.event.Part.TheVariants.{Source, Target, Kind}
-use Rattle.ctr_buffer.specs.Entry.{Entry}
+use Rattle.ctr_buffer.specs.Entry.{FitsPart, is_valid, with_part}
 use Rattle.ctr_buffer.specs.Stack.{Stack, size_of, empty, pushed, popped, swapped, cleared, turned, poked, entry_at}
-
--- an entry with one part replaced
-abbrev pub with_part : Entry → Part → ℕ → Entry
-with_part e Source value = record { source = value; target = e.target; kind = e.kind }
-with_part e Target value = record { source = e.source; target = value; kind = e.kind }
-with_part e Kind value = record { source = e.source; target = e.target; kind = value }
 
 -- what a stack becomes by an event
 abbrev pub after : Stack → Event → Stack
@@ -76,6 +68,11 @@ is_pop _ = false
 abbrev pub counted : ℕ → ℕ → List Event → ℕ
 counted size place events = (place + count_by is_push events + (size - 1) * count_by is_pop events) % size
 
+-- the same by additions alone: together with the pops it is the place and the pushes, modulo the depth
+pub record IsCounted (size place : ℕ) (events : List Event) (pointer : ℕ) : Type 0 where
+  pub within : pointer < size
+  pub sum : (pointer + count_by is_pop events) % size ≡ (place + count_by is_push events) % size
+
 -- the pointer after a history, counted from its events
 abbrev pub pointer_from : Depth → ℕ → List Event → ℕ
 pointer_from depth start history = counted (entries_of (deep_from depth history)) (set_from start history) (since history)
@@ -86,16 +83,16 @@ deep_of history = deep_from D16 history
 abbrev pub pointer_of : List Event → ℕ
 pointer_of history = pointer_from D16 0 history
 
--- a value that a part of an entry can hold
-abbrev pub FitsPart : Part → ℕ → Type 0
-FitsPart Source value = Unit {0}
-FitsPart Target value = value % 2 ≡ 0
-FitsPart Kind value = value < 16
+abbrev pub HasPointer : List Event → ℕ → Type 0
+HasPointer history pointer = IsCounted (entries_of (deep_of history)) (set_from 0 history) (since history) pointer
 
--- an event that a stack can take: another depth, a pointer and an index below the depth, a value that its part can hold
+-- an event that a stack can take: an entry with V, another depth, another pointer below the depth, an index below the depth
+-- with a value that its part can hold
 abbrev pub CanTake : Stack → Event → Type 0
+CanTake s (Push e) = is_valid e ≡ true
+CanTake s (Swap e) = is_valid e ≡ true
 CanTake s (SetDepth depth) = entries_of depth ≢ size_of s
-CanTake s (Turn w) = w < size_of s
+CanTake s (Turn w) = (w < size_of s) × (w ≢ s.pointer)
 CanTake s (Poke i part value) = (i < size_of s) × FitsPart part value
 CanTake s _ = Unit {0}
 

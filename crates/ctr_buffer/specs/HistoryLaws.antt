@@ -12,8 +12,8 @@ use Rattle.ctr_csrs.specs.Depths.{entries_of}
 use Rattle.ctr_csrs.specs.RegisterLaws.{least_entries}
 use Rattle.ctr_buffer.specs.declared.event.Event.{Event}
 use Rattle.ctr_buffer.specs.declared.event.Event.TheVariants.{Push, Swap, Pop, Clear, SetDepth, Turn, Poke}
-use Rattle.ctr_buffer.specs.Entry.{Entry, zero_entry, unlinked}
-use Rattle.ctr_buffer.specs.History.{IsHistory, after, stack_of, with_part, deep_from, sets_pointer, place_set, set_from, since, is_push, is_pop, counted, pointer_from}
+use Rattle.ctr_buffer.specs.Entry.{Entry, zero_entry, unlinked, with_part}
+use Rattle.ctr_buffer.specs.History.{IsHistory, after, stack_of, deep_from, sets_pointer, place_set, set_from, since, is_push, is_pop, counted, pointer_from}
 use Rattle.ctr_buffer.specs.Stack.{Stack, IsStack, size_of, empty, first_last, entry_at}
 
 -- a history begins with a depth, so what the buffer held before it is no matter

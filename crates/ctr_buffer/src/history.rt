@@ -1,37 +1,13 @@
 ghost use Rattle.std.specs.Prelude.{◌≡◌, ◌<◌, List, [], ◌∷◌, ◌++◌, fold};
-ghost use Rattle.ctr_buffer.specs.History.{IsHistory, after, stack_of, deep_of, pointer_of, with_part, FitsPart, CanTake, CanTakeAll};
+ghost use Rattle.ctr_buffer.specs.History.{IsHistory, after, stack_of, deep_of, pointer_of, HasPointer, CanTake, CanTakeAll};
+ghost use Rattle.ctr_buffer.specs.Facts.{BuffersStay};
 ghost use Rattle.ctr_buffer.specs.Stack.{Stack, IsStack, empty};
 ghost use Rattle.ctr_buffer.specs.declared.event.Event.{Event};
 ghost use Rattle.ctr_buffer.specs.declared.event.Event.TheVariants.{SetDepth};
 
-use crate::event::{Event, Part};
-use crate::slot::Slot;
+use crate::event::Event;
 use crate::store::CtrStore;
 use ctr_csrs::Depth;
-
-// The slot with one part replaced.
-fn with_part(slot: Slot, part: Part, value: u64) -> Slot
-    requires { FitsPart part value }
-    ensures { result ≡ with_part slot part value }
-{
-    match part {
-        Part::Source => Slot {
-            source: value,
-            target: slot.target,
-            kind: slot.kind,
-        },
-        Part::Target => Slot {
-            source: slot.source,
-            target: value,
-            kind: slot.kind,
-        },
-        Part::Kind => Slot {
-            source: slot.source,
-            target: slot.target,
-            kind: value as u8,
-        },
-    }
-}
 
 /// Makes the call of an event.
 pub fn perform<B: CtrStore>(store: &mut B, event: Event)
@@ -46,7 +22,7 @@ pub fn perform<B: CtrStore>(store: &mut B, event: Event)
         Event::SetDepth(depth) => store.set_depth(depth),
         Event::Turn(w) => store.set_wrptr(w),
         Event::Poke(i, part, value) => {
-            let slot = with_part(store.slot(i), part, value);
+            let slot = store.slot(i).with_part(part, value);
             store.set_slot(i, slot);
         }
     }
@@ -81,5 +57,9 @@ pub fn history_laws()
     ensures newest { (history : List Event) (e : Event) → stack_of (history ++ e ∷ []) ≡ after (stack_of history) e }
     ensures depth_is_the_last { (history : List Event) → (stack_of history).depth ≡ deep_of history }
     ensures pointer_is_counted { (history : List Event) → (stack_of history).pointer ≡ pointer_of history }
+
+    // The counted pointer is below the depth, and with the pops it is where it was set and the pushes, modulo the depth.
+    ensures pointer_sum { (history : List Event) → HasPointer history (pointer_of history) }
     ensures shape { (history : List Event) → IsStack (stack_of history) }
+    ensures buffers_stay { BuffersStay }
 {}

@@ -4,11 +4,11 @@
 //! It stands on `ctr_csrs`.
 #![tactic(auto)]
 
-pub use event::{Event, Part};
+pub use event::Event;
 pub use history::{history_laws, perform, perform_all, replay};
 pub use list_store::ListStore;
 pub use ring_store::RingStore;
-pub use slot::Slot;
+pub use slot::{Part, Slot, entry_laws};
 pub use store::CtrStore;
 
 mod event;

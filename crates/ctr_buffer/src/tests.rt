@@ -1,18 +1,26 @@
-ghost use Rattle.std.specs.Prelude.{◌<◌};
+ghost use Rattle.std.specs.Prelude.{◌≡◌, ◌<◌, true};
+ghost use Rattle.ctr_buffer.specs.Entry.{is_valid};
 
 use super::*;
 use ctr_csrs::{Depth, depth_of, entries};
 use std::process::Abort;
 
-// A slot that is told from the others by its source word, 2n + 1.
+// The slot of a call from the address 2n to 2n, by which it is told from the others.
 fn slot(n: u64) -> Slot
     requires { n < 1000 }
+    ensures { is_valid result ≡ true }
 {
-    Slot {
-        source: 2 * n + 1,
-        target: 2 * n,
-        kind: 8,
-    }
+    entry_laws();
+    Slot::of(2 * n, 2 * n, false, 8)
+}
+
+// The same, mispredicted.
+fn missed(n: u64) -> Slot
+    requires { n < 1000 }
+    ensures { is_valid result ≡ true }
+{
+    entry_laws();
+    Slot::of(2 * n, 2 * n, true, 8)
 }
 
 fn pushes<B: CtrStore + Drop>(rt: &impl Abort) {
@@ -215,6 +223,83 @@ fn clears<B: CtrStore + Drop>(rt: &impl Abort) {
     perform(&mut store, Event::Pop);
     assert_eq!(rt; store.wrptr(), 255, "one less than 0, modulo 256");
     history_laws();
+}
+
+fn keeps_the_flag<B: CtrStore + Drop>(rt: &impl Abort) {
+    let history = [
+        Event::Push(missed(1)),
+        Event::Push(missed(2)),
+        Event::Pop, // slot 2 keeps MISP and loses V
+        Event::Swap(missed(3)), // in the place of slot 1
+        Event::Poke(1, Part::Target, 0xFFFF_FFFF_FFFF_FFFF),
+        Event::Poke(2, Part::Source, 0xFFFF_FFFF_FFFF_FFFE),
+    ];
+    let store: B = replay(Depth::D16, &history);
+    assert!(rt; entries(store.depth()) == 16);
+    for (i, source, target, what) in [
+        (0, 7, 7, "the swap"),
+        (
+            1,
+            0,
+            0xFFFF_FFFF_FFFF_FFFF,
+            "the target word keeps all 64 bits",
+        ),
+        (2, 0xFFFF_FFFF_FFFF_FFFE, 0, "and so does the source word"),
+        (15, 4, 5, "what was popped: V is clear, MISP stays"),
+    ] {
+        let slot = store.slot(i);
+        assert_eq!(rt; slot.source, source, "source word of slot {i}: {what}");
+        assert_eq!(rt; slot.target, target, "target word of slot {i}: {what}");
+    }
+}
+
+#[test]
+fn a_swap_a_pop_and_a_write_leave_the_misprediction_flag_to_the_entry(rt: HostRuntime) {
+    keeps_the_flag::<ListStore>(&rt);
+    keeps_the_flag::<RingStore>(&rt);
+}
+
+#[test]
+fn the_words_of_a_slot_are_read_as_v_misp_and_addresses(rt: HostRuntime) {
+    for (source, target, valid, mispredicted, from, to) in [
+        (0, 0, false, false, 0, 0),
+        (1, 0, true, false, 0, 0), // a source that was left out is recorded as 0
+        (2, 1, false, true, 2, 0), // an even source holds no transfer, whatever it is
+        (
+            0x8000_0001,
+            0x8000_0005,
+            true,
+            true,
+            0x8000_0000,
+            0x8000_0004,
+        ),
+        (
+            0xFFFF_FFFF_FFFF_FFFE,
+            3,
+            false,
+            true,
+            0xFFFF_FFFF_FFFF_FFFE,
+            2,
+        ),
+        (
+            0xFFFF_FFFF_FFFF_FFFF,
+            0xFFFF_FFFF_FFFF_FFFF,
+            true,
+            true,
+            0xFFFF_FFFF_FFFF_FFFE,
+            0xFFFF_FFFF_FFFF_FFFE,
+        ),
+    ] {
+        let slot = Slot {
+            source,
+            target,
+            kind: 0,
+        };
+        assert_eq!(rt; slot.is_valid(), valid, "V of {source:#x}");
+        assert_eq!(rt; slot.is_mispredicted(), mispredicted, "MISP of {target:#x}");
+        assert_eq!(rt; slot.source_address(), from, "the address in {source:#x}");
+        assert_eq!(rt; slot.target_address(), to, "the address in {target:#x}");
+    }
 }
 
 #[test]

@@ -1,6 +1,6 @@
 -- At most one row holds, and the function picks it.
 use Rattle.std.proofs.Common.{◌≡◌, ◌≢◌, ℕ, ◌%◌, Bool, true, false, cond, not, ◌&&◌, Option, Some, None, refl, sym, ◌∙◌, ap}
-use Rattle.ctr_rules.specs.Admitted.{view_of, holds, NoRow, row_of, act_by, admitted, IsEven}
+use Rattle.ctr_rules.specs.Admitted.{view_of, holds, NoRow, row_of, act_by, admitted, IsEven, RecordsItsOwn}
 use Rattle.ctr_rules.specs.FreezeBits.{freezes}
 use Rattle.ctr_rules.specs.RowTable.{Row, EmulatedCall, EmulatedReturn, EmulatedSwap, Within, TrapIn, ReturnOut, TrapOut, View, fits, act_of}
 use Rattle.ctr_rules.specs.declared.transfer.Act.{Act}
@@ -213,3 +213,19 @@ pub decided_is_even : (a b : Bool) (o : Option Row) (t : Transfer) → t.source 
 decided_is_even true b o t p q = tt
 decided_is_even false true o t p q = tt
 decided_is_even false false o t p q = row_is_even o t p q
+
+-- and its own type and misprediction
+pub row_is_own : (o : Option Row) (t : Transfer) → RecordsItsOwn t (act_by o t)
+row_is_own None t = tt
+row_is_own (Some EmulatedCall) t = (refl, refl)
+row_is_own (Some EmulatedReturn) t = tt
+row_is_own (Some EmulatedSwap) t = (refl, refl)
+row_is_own (Some Within) t = (refl, refl)
+row_is_own (Some TrapIn) t = (refl, refl)
+row_is_own (Some ReturnOut) t = (refl, refl)
+row_is_own (Some TrapOut) t = (refl, refl)
+
+pub decided_is_own : (a b : Bool) (o : Option Row) (t : Transfer) → RecordsItsOwn t (decided a b o t)
+decided_is_own true b o t = tt
+decided_is_own false true o t = tt
+decided_is_own false false o t = row_is_own o t

@@ -5,6 +5,8 @@ use Rattle.ctr_csrs.specs.ControlFigure.{is_on}
 use Rattle.ctr_rules.specs.declared.transfer.Act.{Act}
 use Rattle.ctr_rules.specs.declared.transfer.Act.TheVariants.{Nothing, Push, Swap, Freeze}
 use Rattle.ctr_rules.specs.declared.transfer.Transfer.{Transfer}
+use Rattle.xfer_class.specs.declared.types.XferType.{XferType}
+use Rattle.xfer_class.specs.declared.types.XferType.TheVariants.{NotTaken, Taken}
 use Rattle.ctr_rules.specs.Enabled.{enables, trap_enabled}
 use Rattle.ctr_rules.specs.FilterBits.{filter_of, inhibits}
 use Rattle.ctr_rules.specs.FreezeBits.{freezes}
@@ -61,3 +63,15 @@ abbrev pub IsEven : Act → Type 0
 IsEven (Push r) = (r.source % 2 ≡ 0) × (r.target % 2 ≡ 0)
 IsEven (Swap r) = (r.source % 2 ≡ 0) × (r.target % 2 ≡ 0)
 IsEven _ = Unit {0}
+
+-- a branch, taken or not
+abbrev pub is_branch : XferType → Bool
+is_branch NotTaken = true
+is_branch Taken = true
+is_branch _ = false
+
+-- an act that records has the type of the transfer and its misprediction
+abbrev pub RecordsItsOwn : Transfer → Act → Type 0
+RecordsItsOwn t (Push r) = (r.kind ≡ t.kind) × (r.misp ≡ t.misp)
+RecordsItsOwn t (Swap r) = (r.kind ≡ t.kind) × (r.misp ≡ t.misp)
+RecordsItsOwn t _ = Unit {0}

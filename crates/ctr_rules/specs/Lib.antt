@@ -1,4 +1,5 @@
 pub mod Admitted
+pub mod Asked
 pub mod Enabled
 pub mod FilterBits
 pub mod FreezeBits

@@ -50,37 +50,81 @@ abbrev pub is_trap_return : XferType → Bool
 is_trap_return kinds.TrapReturn = true
 is_trap_return _ = false
 
--- whether a row holds
-abbrev pub fits : Row → View → Bool
-fits EmulatedCall v = v.from && v.to && v.emulation && is_call v.kind
-fits EmulatedReturn v = v.from && v.to && v.emulation && is_return v.kind
-fits EmulatedSwap v = v.from && v.to && v.emulation && is_swap v.kind
-fits Within v = v.from && v.to && not v.emulation && v.let_in
-fits TrapIn v = not v.from && v.to && not v.emulation && is_trap v.kind && v.let_in
-fits ReturnOut v = v.from && not v.to && not v.emulation && is_trap_return v.kind && v.let_in
-fits TrapOut v = v.from && not v.to && not v.emulation && is_trap v.kind && v.enabled
+abbrev pub is_any : XferType → Bool
+is_any kind = true
 
--- the record of a transfer with these addresses
+-- what is recorded of a transfer with these addresses
 abbrev pub record_of : Transfer → ℕ → ℕ → Record
-record_of t source target = record { source = source; target = target; kind = t.kind }
+record_of t source target = record { source = source; target = target; kind = t.kind; misp = t.misp }
 
--- what a row does: the address of a mode that isn't enabled is recorded as 0
+-- what a row does. The address of a mode that isn't enabled is recorded as 0
+abbrev pub pushes : Transfer → Act
+pushes t = acts.Push (record_of t t.source t.target)
+
+abbrev pub pushes_target : Transfer → Act
+pushes_target t = acts.Push (record_of t 0 t.target)
+
+abbrev pub pushes_source : Transfer → Act
+pushes_source t = acts.Push (record_of t t.source 0)
+
+abbrev pub pops : Transfer → Act
+pops t = acts.Pop
+
+abbrev pub swaps : Transfer → Act
+swaps t = acts.Swap (record_of t t.source t.target)
+
+-- what a row asks further
+abbrev pub nothing_further : View → Bool
+nothing_further v = true
+
+abbrev pub not_inhibited : View → Bool
+not_inhibited v = v.let_in
+
+abbrev pub trap_bits_set : View → Bool
+trap_bits_set v = v.enabled
+
+-- a line of the table: whether it wants the mode before and the mode after enabled, and return-stack emulation on; its
+-- transfer types; what it asks further; and what it does
+pub record Line : Type 0 where
+  pub from : Bool
+  pub to : Bool
+  pub emulation : Bool
+  pub kinds : XferType → Bool
+  pub further : View → Bool
+  pub does : Transfer → Act
+
+abbrev pub asks : Bool → Bool → Bool → (XferType → Bool) → (View → Bool) → (Transfer → Act) → Line
+asks from to emulation kinds further does = record {
+  from = from;
+  to = to;
+  emulation = emulation;
+  kinds = kinds;
+  further = further;
+  does = does;
+}
+
+-- the table. From enabled, to enabled, emulation; the types; what is asked further; the act
+abbrev pub line : Row → Line
+line EmulatedCall = asks true true true is_call nothing_further pushes
+line EmulatedReturn = asks true true true is_return nothing_further pops
+line EmulatedSwap = asks true true true is_swap nothing_further swaps
+line Within = asks true true false is_any not_inhibited pushes
+line TrapIn = asks false true false is_trap not_inhibited pushes_target
+line ReturnOut = asks true false false is_trap_return not_inhibited pushes_source
+line TrapOut = asks true false false is_trap trap_bits_set pushes_source
+
+-- two answers are the same
+abbrev pub agrees : Bool → Bool → Bool
+agrees true answer = answer
+agrees false answer = not answer
+
+-- whether a line holds
+abbrev pub line_holds : Line → View → Bool
+line_holds l v =
+    agrees l.from v.from && agrees l.to v.to && agrees l.emulation v.emulation && l.kinds v.kind && l.further v
+
+abbrev pub fits : Row → View → Bool
+fits row v = line_holds (line row) v
+
 abbrev pub act_of : Row → Transfer → Act
-act_of EmulatedCall t = acts.Push (record_of t t.source t.target)
-act_of EmulatedReturn t = acts.Pop
-act_of EmulatedSwap t = acts.Swap (record_of t t.source t.target)
-act_of Within t = acts.Push (record_of t t.source t.target)
-act_of TrapIn t = acts.Push (record_of t 0 t.target)
-act_of ReturnOut t = acts.Push (record_of t t.source 0)
-act_of TrapOut t = acts.Push (record_of t t.source 0)
-
--- under return-stack emulation, by the transfer type
-abbrev pub emulated_by : XferType → Record → Act
-emulated_by kinds.IndirectCall whole = acts.Push whole
-emulated_by kinds.DirectCall whole = acts.Push whole
-emulated_by kinds.Return whole = acts.Pop
-emulated_by kinds.Swap whole = acts.Swap whole
-emulated_by _ whole = acts.Nothing
-
-abbrev pub emulated_act : Transfer → Act
-emulated_act t = emulated_by t.kind (record_of t t.source t.target)
+act_of row t = (line row).does t

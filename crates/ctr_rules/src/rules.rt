@@ -1,7 +1,8 @@
 ghost use Rattle.std.specs.Prelude.{◌≡◌, ◌≢◌, ◌↔◌, ◌%◌, true, false};
-ghost use Rattle.ctr_rules.specs.Admitted.{admitted, holds, NoRow, OneRow, act_by, row_of, view_of, IsEven};
+ghost use Rattle.ctr_rules.specs.Admitted.{admitted, holds, NoRow, OneRow, act_by, row_of, view_of, IsEven, is_branch, RecordsItsOwn};
 ghost use Rattle.ctr_rules.specs.FreezeBits.{freezes};
-ghost use Rattle.ctr_rules.specs.RowTable.{Row, act_of, record_of, emulated_act};
+ghost use Rattle.ctr_rules.specs.Asked.{emulated_act};
+ghost use Rattle.ctr_rules.specs.RowTable.{Row, act_of, record_of};
 ghost use Rattle.ctr_rules.specs.declared.transfer.Transfer.{Transfer};
 ghost use Rattle.std.specs.Prelude.{ℕ, Bool};
 
@@ -14,13 +15,20 @@ use xfer_class::XferType;
 
 /// What a transfer does to the records where `mctrctl` is `m`, `vsctrctl` is `vs` and FROZEN is `frozen`
 /// (RISC-V Control Transfer Records 1.0, "Transfer Type Filtering", "RAS Emulation Mode", "External Traps" and "Freeze").
+///
+/// Only a branch can have been predicted wrongly.
+#[inline(always)]
 pub fn act(transfer: Transfer, m: Control, vs: Control, frozen: bool) -> Act
+    requires misp { transfer.misp ≡ true → is_branch transfer.kind ≡ true }
     ensures is { result ≡ admitted transfer m vs frozen }
     ensures freeze { (result ≡ Act.Freeze) ↔ ((frozen ≡ false) × (freezes transfer m vs ≡ true)) }
 
     // The rows of the table stand in no order: whichever holds, its act is the answer.
     ensures row { (r : Row) → holds r transfer m vs frozen ≡ true → result ≡ act_of r transfer }
     ensures none { NoRow transfer m vs frozen → result ≢ Act.Freeze → result ≡ Act.Nothing }
+
+    // What is recorded has the type of the transfer and its misprediction.
+    ensures own { RecordsItsOwn transfer result }
     ensures even { transfer.source % 2 ≡ 0 → transfer.target % 2 ≡ 0 → IsEven result }
 {
     if frozen {
@@ -33,11 +41,16 @@ pub fn act(transfer: Transfer, m: Control, vs: Control, frozen: bool) -> Act
 }
 
 // The act where FROZEN is clear and stays so: the rules in the order in which the standard has them.
+#[inline(always)]
 fn recorded(transfer: Transfer, m: Control, vs: Control) -> Act
     ensures { result ≡ act_by (row_of (view_of transfer m vs)) transfer }
 {
     let from = is_enabled(transfer.from, m, vs);
     let to = is_enabled(transfer.to, m, vs);
+    if !from && !to {
+        // Most transfers where nothing is recorded end here.
+        return Act::Nothing;
+    }
     let filter = filter_register(transfer, m, vs);
     if filter.on(ControlBit::Rasemu) {
         // Calls, returns and swaps stay in their mode, so only one that is enabled counts.
@@ -87,6 +100,7 @@ fn record_of(transfer: Transfer, source: u64, target: u64) -> Record
         source,
         target,
         kind: transfer.kind,
+        misp: transfer.misp,
     }
 }
 

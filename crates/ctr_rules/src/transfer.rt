@@ -23,16 +23,24 @@ pub struct Transfer {
 
     /// A local counter overflow interrupt, which is number 13.
     pub lcofi: bool,
+
+    /// A branch that was predicted wrongly.
+    pub misp: bool,
 }
 
 /// What is recorded of a transfer. An address is 0 where its mode records nothing.
 #[derive(Clone, Copy, Debug, PartialEq, Eq)]
 pub struct Record {
+    /// The address of the transfer.
     pub source: u64,
 
+    /// The address that it went to.
     pub target: u64,
 
     pub kind: XferType,
+
+    /// A branch that was predicted wrongly.
+    pub misp: bool,
 }
 
 /// What a transfer does to the records.

@@ -1,8 +1,8 @@
 -- The proofs of the laws of accesses.
 use Rattle.std.proofs.Common.{ℕ, ◌≡◌, ◌≤◌, ◌<◌, nat_le, nat_lt, true, Option, Some, None, Result, Ok, Err, refl, ap}
 use Rattle.std.proofs.lemmas.Bool.{and_from, le-leb, lt-ltb, cond-true}
-use Rattle.ctr_buffer.specs.declared.event.Part.{Part}
-use Rattle.ctr_buffer.specs.declared.event.Part.TheVariants as parts
+use Rattle.ctr_buffer.specs.declared.slot.Part.{Part}
+use Rattle.ctr_buffer.specs.declared.slot.Part.TheVariants as parts
 use Rattle.guest_modes.specs.declared.gating.CsrFault.{CsrFault}
 use Rattle.guest_modes.specs.declared.registers.Priv.{Priv}
 use Rattle.guest_modes.specs.Gate.{gated}

@@ -7,8 +7,8 @@ use Rattle.ctr_csrs.specs.Depths.{code_of, depth_at, entries_of}
 use Rattle.ctr_csrs.specs.StatusFigure.{word_of, pointer_in, frozen_in}
 use Rattle.ctr_buffer.specs.declared.event.Event.{Event}
 use Rattle.ctr_buffer.specs.declared.event.Event.TheVariants.{Turn, SetDepth, Poke}
-use Rattle.ctr_buffer.specs.declared.event.Part.{Part}
-use Rattle.ctr_buffer.specs.declared.event.Part.TheVariants as parts
+use Rattle.ctr_buffer.specs.declared.slot.Part.{Part}
+use Rattle.ctr_buffer.specs.declared.slot.Part.TheVariants as parts
 use Rattle.ctr_buffer.specs.Entry.{Entry}
 use Rattle.ctr_buffer.specs.Stack.{Stack, size_of, entry_at}
 use Rattle.indirect_regs.specs.declared.port.PortReg.{PortReg}

@@ -7,8 +7,8 @@ use Rattle.guest_modes.specs.declared.registers.Priv.{Priv}
 use Rattle.guest_modes.specs.Numbers.{is_register}
 use Rattle.guest_modes.specs.Registers.{read_of, written_of}
 use Rattle.ctr_buffer.specs.declared.event.Event.{Event}
-use Rattle.ctr_buffer.specs.declared.event.Part.{Part}
-use Rattle.ctr_buffer.specs.declared.event.Part.TheVariants.{Source, Target, Kind}
+use Rattle.ctr_buffer.specs.declared.slot.Part.{Part}
+use Rattle.ctr_buffer.specs.declared.slot.Part.TheVariants.{Source, Target, Kind}
 use Rattle.indirect_regs.specs.declared.port.PortReg.{PortReg}
 use Rattle.indirect_regs.specs.declared.port.PortReg.TheVariants.{Mctrctl, Vsctrctl, Depth, Status, Select}
 use Rattle.indirect_regs.specs.Unit.{UnitState}

@@ -1,6 +1,8 @@
 use Rattle.ctr_csrs.specs.declared.depth.Depth.TheVariants.{D16}
 use Rattle.ctr_buffer.specs.Stack.{empty}
 use Rattle.ctr_buffer.specs.HistoryLaws.{begins, depth_follows, pointer_follows, all_stay, empty_is}
+use Rattle.ctr_buffer.proofs.Counts.{pointer_sum}
+use Rattle.ctr_buffer.proofs.FactLemmas.{buffers_stay}
 use Rattle.ctr_buffer.proofs.history.history_laws.Goals as goal
 
 pub returns-clause-depth_is_the_last : goal.returns-clause-depth_is_the_last
@@ -14,3 +16,9 @@ returns-clause-shape c = λ history. all_stay (empty D16) history (empty_is D16)
 
 pub returns-clause-begins : goal.returns-clause-begins
 returns-clause-begins c = begins
+
+pub returns-clause-pointer_sum : goal.returns-clause-pointer_sum
+returns-clause-pointer_sum c = pointer_sum
+
+pub returns-clause-buffers_stay : goal.returns-clause-buffers_stay
+returns-clause-buffers_stay c = buffers_stay
