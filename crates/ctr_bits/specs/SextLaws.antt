@@ -1,6 +1,6 @@
--- The law of sign extension: what is extended stands for the number that the bits stood for (Unprivileged ISA,
+-- Laws of sign extension: what is extended stands for the number that the bits stood for (Unprivileged ISA,
 -- the immediates of the base formats: each is a number in two's complement).
-use Rattle.std.specs.Prelude.{ℕ, ℤ, ◌≡◌, ◌+◌, ◌-◌, ◌*◌, ◌/◌, ◌%◌, ◌^◌, ◌<◌, ◌≤◌, cond, ltb, pos, ◌-ℤ◌}
+use Rattle.std.specs.Prelude.{ℕ, ℤ, ◌≡◌, ◌+◌, ◌-◌, ◌*◌, ◌/◌, ◌%◌, ◌^◌, ◌<◌, ◌≤◌, Bool, true, false, cond, ltb, pos, ◌-ℤ◌}
 use Rattle.std.proofs.Common.{sym, ◌∙◌, ap, inl, inr, arith}
 use Rattle.std.proofs.Math.Nat.{mod-eq-sub-mod, mod-eq_of_lt, pow-le-pow_right}
 use Rattle.std.proofs.lemmas.Bool.{cases_lt, lt-ltb, le-ltb, cond-true, cond-false}
@@ -15,6 +15,10 @@ number_of bits value = pos (value % 2 ^ (bits - 1)) -ℤ pos (value / 2 ^ (bits 
 
 abbrev pub ExtendedIsNumber : Type 0
 ExtendedIsNumber = (bits value : ℕ) → 1 ≤ bits → bits ≤ 64 → value < 2 ^ bits → cast_signed w64 (extended bits value) ≡ number_of bits value
+
+-- and is a word of 64 bits
+abbrev pub ExtendedFits : Type 0
+ExtendedFits = (bits value : ℕ) → bits ≤ 64 → value < 2 ^ bits → extended bits value < 2 ^ 64
 
 -- a word by its highest bit
 pub sign_clear : (word low high : ℕ) → word < 2 ^ 63 → low ≡ word + high → cast_signed w64 word ≡ pos low -ℤ pos high
@@ -50,3 +54,12 @@ extended_is_number bits value some room fits =
     sym (ap (λ (k : ℕ). 2 ^ k) next) ∙ pow-add 2 (bits - 1) 1 ∙ omega arith in
     ap (λ (n : ℕ). cast_signed w64 (cond (ltb value (2 ^ (bits - 1))) value (value + (2 ^ 64 - n)))) twice
     ∙ by_sign (2 ^ (bits - 1)) value most (omega (arith, twice))
+
+pub by_sign_fits : (t : Bool) (end value : ℕ) → end ≤ 2 ^ 64 → value < end → cond t value (value + (2 ^ 64 - end)) < 2 ^ 64
+by_sign_fits true end value most fits = omega arith
+by_sign_fits false end value most fits = omega arith
+
+pub extended_fits : ExtendedFits
+extended_fits bits value room fits =
+    let two : 0 < 2 = omega arith in
+    by_sign_fits (ltb value (2 ^ (bits - 1))) (2 ^ bits) value (pow-le-pow_right two room) fits
