@@ -1,5 +1,6 @@
 pub mod Field
 pub mod Sext
+pub mod SextLaws
 pub mod Mask
 pub mod FieldBits
 pub mod FieldLaws

@@ -1,6 +1,7 @@
 ghost use Rattle.ctr_bits.specs.FieldLaws.{GetAfterPut, PutLeavesOthers, PutOfGet, LastPutCounts, PutFits};
 ghost use Rattle.ctr_bits.specs.MaskLaws.{NarrowerMaskCounts, MaskTwice, FieldOfMasked, FieldInMask, FieldOffMask};
 ghost use Rattle.ctr_bits.specs.MaskLaws.{PutLeavesMask, PutStaysWithin, MergedOnMask, MergedOffMask, MergedStaysWithin, MergedFits, FieldOfMergedIn, FieldOfMergedOff};
+ghost use Rattle.ctr_bits.specs.SextLaws.{ExtendedFits, ExtendedIsNumber};
 
 /// The laws of fields, of every word and every place: a proof and no work.
 pub fn field_laws()
@@ -26,4 +27,10 @@ pub fn mask_laws()
     ensures merged_fits { MergedFits }
     ensures field_of_merged_in { FieldOfMergedIn }
     ensures field_of_merged_off { FieldOfMergedOff }
+{}
+
+/// The laws of sign extension, of every width: a proof and no work.
+pub fn sext_laws()
+    ensures extended_is_number { ExtendedIsNumber }
+    ensures extended_fits { ExtendedFits }
 {}

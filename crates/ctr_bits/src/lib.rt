@@ -7,7 +7,7 @@ mod laws;
 
 pub use extend::sext;
 pub use field::Field;
-pub use laws::{field_laws, mask_laws};
+pub use laws::{field_laws, mask_laws, sext_laws};
 
 #[cfg(test)]
 mod tests;

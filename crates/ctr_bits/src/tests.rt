@@ -1,4 +1,4 @@
-use crate::{Field, field_laws, mask_laws, sext};
+use crate::{Field, field_laws, mask_laws, sext, sext_laws};
 
 // The word 0xFE5FF06F is `jal x0, -28`, taken apart by hand from the format J of the Unprivileged ISA.
 #[test]
@@ -55,4 +55,5 @@ fn the_sign_bit_fills_the_bits_above_it(rt: HostRuntime) {
 fn the_laws_do_no_work(rt: HostRuntime) {
     field_laws();
     mask_laws();
+    sext_laws();
 }

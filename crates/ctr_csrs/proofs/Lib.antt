@@ -1,1 +1,2 @@
 pub mod KeptBits
+mod TrapLemmas

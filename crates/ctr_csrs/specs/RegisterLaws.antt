@@ -24,6 +24,10 @@ PointerComesBack = (status : Status) (depth : Depth) → status.wrptr < entries_
 abbrev pub FrozenComesBack : Type 0
 FrozenComesBack = (status : Status) → status.wrptr < 256 → frozen_in (word_of status) ≡ status.frozen
 
+-- a buffer has 16 to 256 entries
+abbrev pub EntriesInRange : Type 0
+EntriesInRange = (depth : Depth) → (16 ≤ entries_of depth) × (entries_of depth ≤ 256)
+
 pub most_entries : (depth : Depth) → entries_of depth ≤ 256
 most_entries D16 = lit≤ tt
 most_entries D32 = lit≤ tt
@@ -37,6 +41,9 @@ least_entries D32 = lit≤ tt
 least_entries D64 = lit≤ tt
 least_entries D128 = lit≤ tt
 least_entries D256 = lit≤ tt
+
+pub entries_in_range : EntriesInRange
+entries_in_range depth = (least_entries depth, most_entries depth)
 
 pub depth_comes_back : DepthComesBack
 depth_comes_back D16 = refl

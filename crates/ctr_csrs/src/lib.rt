@@ -7,7 +7,7 @@
 pub use control::{Control, legal_m, legal_s, legal_vs, view_s};
 pub use control_bit::ControlBit;
 pub use depth::{Depth, depth_code, depth_of, entries};
-pub use laws::register_laws;
+pub use laws::{register_laws, trap_laws};
 pub use mode::Mode;
 pub use status::{Status, status_of, status_word};
 

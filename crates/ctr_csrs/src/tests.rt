@@ -105,4 +105,5 @@ fn a_status_word_has_the_pointer_low_and_frozen_in_bit_31(rt: HostRuntime) {
         );
     }
     register_laws();
+    trap_laws();
 }

@@ -1,9 +1,10 @@
 -- Laws of the table of instructions.
-use Rattle.std.specs.Prelude.{ℕ, ◌≡◌}
+use Rattle.std.specs.Prelude.{ℕ, ◌≡◌, IfSome}
 use Rattle.rv_decode.specs.declared.instruction.Instr.{Instr}
 use Rattle.rv_decode.specs.Table.{table}
-use Rattle.rv_decode.specs.Rows.{Row, RowAt}
+use Rattle.rv_decode.specs.Rows.{Row, RowAt, decoded}
 use Rattle.rv_decode.specs.Numbers.{NumbersFit}
+use Rattle.rv_decode.specs.WordFits.{WordsFit}
 
 -- no word has two rows
 abbrev pub OneRow : Type 0
@@ -16,3 +17,11 @@ OneInstr = (w : ℕ) (one other : Instr) → Row w one → Row w other → one �
 -- what a row gives has its numbers in range
 abbrev pub RowsFit : Type 0
 RowsFit = (w : ℕ) (i : Instr) → Row w i → NumbersFit i
+
+-- and its immediates words of 64 bits
+abbrev pub RowWordsFit : Type 0
+RowWordsFit = (w : ℕ) (i : Instr) → Row w i → WordsFit i
+
+-- the same of what a word is decoded to
+abbrev pub DecodedWordsFit : Type 0
+DecodedWordsFit = (w : ℕ) → IfSome (decoded w) WordsFit

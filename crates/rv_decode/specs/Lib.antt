@@ -5,3 +5,4 @@ pub mod Table
 pub mod Rows
 pub mod Numbers
 pub mod Laws
+pub mod WordFits

@@ -10,7 +10,7 @@ mod table;
 mod words;
 
 pub use instruction::{CsrArg, Instr};
-pub use laws::table_laws;
+pub use laws::{table_laws, word_laws};
 pub use operations::{AluOp, Cond, CsrOp, Width};
 pub use words::decode;
 

@@ -1,5 +1,5 @@
 // The words and their meanings are those that bench/decode_rows.py prints: LLVM's assembler made the words.
-use crate::{AluOp, Cond, CsrArg, CsrOp, Instr, Width, decode, table_laws};
+use crate::{AluOp, Cond, CsrArg, CsrOp, Instr, Width, decode, table_laws, word_laws};
 
 #[test]
 fn upper_immediates_are_read_by_the_format_u(rt: HostRuntime) {
@@ -298,4 +298,5 @@ fn a_word_beside_each_row_is_no_instruction(rt: HostRuntime) {
 #[test]
 fn the_laws_do_no_work(rt: HostRuntime) {
     table_laws();
+    word_laws();
 }

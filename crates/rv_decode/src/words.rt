@@ -1,6 +1,7 @@
 ghost use Rattle.std.specs.Prelude.{◌≡◌, ◌↔◌, IfSome};
 ghost use Rattle.rv_decode.specs.Rows.{Row, decoded};
 ghost use Rattle.rv_decode.specs.Numbers.{NumbersFit};
+ghost use Rattle.rv_decode.specs.WordFits.{WordsFit};
 
 use crate::instruction::Instr;
 use crate::table::row_of;
@@ -10,6 +11,7 @@ pub fn decode(word: u32) -> Option<Instr>
     ensures some { (i : Instr) → (result ≡ Some i) ↔ Row word i }
     ensures none { (result ≡ None) ↔ ((i : Instr) → Row word i → ⊥) }
     ensures numbers { IfSome result (λ i. NumbersFit i) }
+    ensures words { IfSome result (λ i. WordsFit i) }
     ensures value { result ≡ decoded word }
 {
     row_of(word)

@@ -1,5 +1,5 @@
 -- Transfer types and their numbers (RISC-V Control Transfer Records 1.0, transfer types), as functions.
-use Rattle.std.specs.Prelude.{ℕ, Bool, true, false, cond, nat_eq, ◌&&◌, ◌||◌, not, Option, None, Some}
+use Rattle.std.specs.Prelude.{ℕ, Bool, cond, nat_eq, ◌&&◌, ◌||◌, not, Option, None, Some}
 use Rattle.rv_decode.specs.declared.instruction.Instr.{Instr}
 use Rattle.rv_decode.specs.declared.instruction.Instr.TheVariants.{Jal, Jalr, Branch, Mret, Sret}
 use Rattle.xfer_class.specs.declared.types.XferType.{XferType}

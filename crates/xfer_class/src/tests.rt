@@ -1,5 +1,5 @@
-use crate::{XferType, class_of};
-use rv_decode::{AluOp, Cond, CsrArg, CsrOp, Instr, Width};
+use crate::{XferType, class_of, missed};
+use rv_decode::{AluOp, Cond, CsrArg, CsrOp, Instr, Width, decode};
 
 #[test]
 fn the_destination_of_a_jal_decides_its_type(rt: HostRuntime) {
@@ -8,6 +8,8 @@ fn the_destination_of_a_jal_decides_its_type(rt: HostRuntime) {
         (5, XferType::DirectCall), // the alternate link register
         (0, XferType::DirectJump),
         (2, XferType::DirectLinkJump),
+        (3, XferType::DirectLinkJump),
+        (4, XferType::DirectLinkJump),
         (31, XferType::DirectLinkJump),
     ] {
         assert_eq!(rt;
@@ -31,8 +33,14 @@ fn the_link_registers_x1_and_x5_decide_the_type_of_a_jalr(rt: HostRuntime) {
         (0, 5, XferType::Return),
         (6, 1, XferType::Return), // a return may link too
         (31, 5, XferType::Return),
+        (3, 1, XferType::Return),
+        (1, 4, XferType::IndirectCall),
         (0, 0, XferType::IndirectJump),
+        (0, 3, XferType::IndirectJump),
+        (0, 4, XferType::IndirectJump),
         (0, 6, XferType::IndirectJump),
+        (3, 4, XferType::IndirectLinkJump),
+        (4, 3, XferType::IndirectLinkJump),
         (7, 6, XferType::IndirectLinkJump),
         (2, 0, XferType::IndirectLinkJump),
     ] {
@@ -104,6 +112,74 @@ fn no_other_instruction_has_a_type(rt: HostRuntime) {
         Instr::CtrClr,
     ] {
         assert_eq!(rt; class_of(instr, true), None, "{instr:?}");
+    }
+}
+
+fn code_of_word(word: u32) -> Option<u8> {
+    let transfer = class_of(decode(word)?, false)?;
+    Some(transfer.code())
+}
+
+// RISC-V Control Transfer Records 1.0, transfer types; the words are those of the base formats I and J.
+#[test]
+fn the_words_of_jumps_have_the_types_of_their_registers(rt: HostRuntime) {
+    for (word, want) in [
+        (0x000280E7, 12), // jalr x1, 0(x5)
+        (0x000082E7, 12), // jalr x5, 0(x1)
+        (0x000282E7, 8), // jalr x5, 0(x5)
+        (0x000080E7, 8), // jalr x1, 0(x1)
+        (0x00008067, 13), // jalr x0, 0(x1)
+        (0x00008367, 13), // jalr x6, 0(x1)
+        (0x00030067, 10), // jalr x0, 0(x6)
+        (0x00038367, 14), // jalr x6, 0(x7)
+        (0x0000036F, 15), // jal x6, 0
+        (0x0000006F, 11), // jal x0, 0
+    ] {
+        assert_eq!(rt; code_of_word(word), Some(want), "{word:08X}");
+    }
+}
+
+fn branch(cond: Cond, off: u64) -> Instr {
+    Instr::Branch {
+        cond,
+        rs1: 1,
+        rs2: 2,
+        off,
+    }
+}
+
+#[test]
+fn a_branch_is_missed_where_it_goes_another_way_than_its_offset(rt: HostRuntime) {
+    for (instr, taken, want) in [
+        (branch(Cond::Ne, 8), true, true),
+        (branch(Cond::Ne, 8), false, false),
+        (branch(Cond::Eq, 0xFFFFFFFFFFFFFFFC), true, false), // -4
+        (branch(Cond::Eq, 0xFFFFFFFFFFFFFFFC), false, true),
+        (branch(Cond::Eq, 0), true, true), // an offset of 0 is forward
+        (branch(Cond::Eq, 0), false, false),
+        (branch(Cond::Ltu, 0x7FFFFFFFFFFFFFFF), true, true), // the greatest, and the least
+        (branch(Cond::Geu, 0x8000000000000000), true, false),
+    ] {
+        assert_eq!(rt; missed(instr, taken), want, "{instr:?}, taken {taken}");
+    }
+}
+
+#[test]
+fn nothing_but_a_branch_is_missed(rt: HostRuntime) {
+    for instr in [
+        Instr::Jal { rd: 1, off: 8 },
+        Instr::Jalr {
+            rd: 0,
+            rs1: 1,
+            off: 0xFFFFFFFFFFFFFFFC,
+        },
+        Instr::Mret,
+        Instr::Sret,
+        Instr::Ecall,
+        Instr::Fence,
+    ] {
+        assert_eq!(rt; missed(instr, true), false, "{instr:?}, taken");
+        assert_eq!(rt; missed(instr, false), false, "{instr:?}, not taken");
     }
 }
 
