@@ -12,6 +12,7 @@ fn transfer(from: Mode, to: Mode, kind: XferType) -> Transfer {
         target: 0x2000,
         breakpoint: false,
         lcofi: false,
+        misp: false,
     }
 }
 
@@ -20,6 +21,7 @@ fn record(source: u64, target: u64, kind: XferType) -> Record {
         source,
         target,
         kind,
+        misp: false,
     }
 }
 
@@ -274,4 +276,249 @@ fn a_freeze_records_nothing_and_needs_no_enabled_mode(rt: HostRuntime) {
         );
     }
     row_laws();
+}
+
+// A transfer of a kind between modes under two controls, and what it does.
+#[derive(Clone, Copy)]
+struct Row {
+    from: Mode,
+    to: Mode,
+    kind: XferType,
+    m: u64,
+    vs: u64,
+    want: Act,
+    what: &'static str,
+}
+
+const SOURCE: u64 = 0x1000;
+
+const TARGET: u64 = 0x2000;
+
+// Bits of the two control registers, by their figures.
+const U: u64 = 0x1;
+
+const S: u64 = 0x2;
+
+const M: u64 = 0x4;
+
+const RASEMU: u64 = 0x80;
+
+const STE_MTE: u64 = 0x300;
+
+const LCOFIFRZ: u64 = 0x1000;
+
+const EXCINH: u64 = 0x2_0000_0000;
+
+const INTRINH: u64 = 0x4_0000_0000;
+
+const TRETINH: u64 = 0x8_0000_0000;
+
+fn pushes(source: u64, target: u64, kind: XferType) -> Act {
+    Act::Push(record(source, target, kind))
+}
+
+#[test]
+fn a_filter_counts_for_traps_in_and_returns_out_and_not_for_external_traps(rt: HostRuntime) {
+    let exception = XferType::Exception;
+    let interrupt = XferType::Interrupt;
+    let back = XferType::TrapReturn;
+    let jump = XferType::DirectJump;
+    for row in [
+        Row {
+            from: Mode::U,
+            to: Mode::M,
+            kind: exception,
+            m: EXCINH | M,
+            vs: 0,
+            want: Act::Nothing,
+            what: "an exception in, inhibited",
+        },
+        Row {
+            from: Mode::U,
+            to: Mode::M,
+            kind: interrupt,
+            m: INTRINH | M,
+            vs: 0,
+            want: Act::Nothing,
+            what: "an interrupt in, inhibited",
+        },
+        Row {
+            from: Mode::U,
+            to: Mode::M,
+            kind: interrupt,
+            m: M,
+            vs: 0,
+            want: pushes(0, TARGET, interrupt),
+            what: "an interrupt in",
+        },
+        Row {
+            from: Mode::M,
+            to: Mode::U,
+            kind: back,
+            m: TRETINH | M,
+            vs: 0,
+            want: Act::Nothing,
+            what: "a return out, inhibited",
+        },
+        Row {
+            from: Mode::S,
+            to: Mode::Vs,
+            kind: back,
+            m: S,
+            vs: TRETINH | S,
+            want: Act::Nothing,
+            what: "a return into the guest, inhibited by vsctrctl",
+        },
+        Row {
+            from: Mode::S,
+            to: Mode::Vs,
+            kind: back,
+            m: TRETINH | S,
+            vs: S,
+            want: pushes(SOURCE, TARGET, back),
+            what: "and not by mctrctl",
+        },
+        Row {
+            from: Mode::M,
+            to: Mode::Vu,
+            kind: back,
+            m: M,
+            vs: TRETINH,
+            want: Act::Nothing,
+            what: "a return out to the guest's user, inhibited by vsctrctl",
+        },
+        Row {
+            from: Mode::Vu,
+            to: Mode::Vu,
+            kind: XferType::Return,
+            m: 0,
+            vs: RASEMU | U,
+            want: Act::Pop,
+            what: "a return in VU under emulation by vsctrctl",
+        },
+        Row {
+            from: Mode::Vu,
+            to: Mode::Vu,
+            kind: XferType::Return,
+            m: RASEMU | U,
+            vs: U,
+            want: pushes(SOURCE, TARGET, XferType::Return),
+            what: "and not by mctrctl",
+        },
+        Row {
+            from: Mode::Vu,
+            to: Mode::Vu,
+            kind: jump,
+            m: 0,
+            vs: RASEMU | U,
+            want: Act::Nothing,
+            what: "a jump in VU under emulation",
+        },
+        Row {
+            from: Mode::U,
+            to: Mode::M,
+            kind: exception,
+            m: EXCINH | STE_MTE | U,
+            vs: 0,
+            want: pushes(SOURCE, 0, exception),
+            what: "an external exception, which no filter keeps out",
+        },
+    ] {
+        assert_eq!(rt;
+            act(
+                transfer(row.from, row.to, row.kind),
+                legal_m(row.m),
+                legal_vs(row.vs),
+                false,
+            ),
+            row.want,
+            "{}",
+            row.what
+        );
+    }
+}
+
+#[test]
+fn an_overflow_into_s_freezes_by_mctrctl_alone(rt: HostRuntime) {
+    let overflow = Transfer {
+        lcofi: true,
+        ..transfer(Mode::S, Mode::S, XferType::Interrupt)
+    };
+    for (m, vs, want) in [(LCOFIFRZ, 0, Act::Freeze), (0, LCOFIFRZ, Act::Nothing)] {
+        assert_eq!(rt;
+            act(overflow, legal_m(m), legal_vs(vs), false),
+            want,
+            "mctrctl {m:#x}, vsctrctl {vs:#x}"
+        );
+    }
+}
+
+// The modes in the order of their ranks: a trap goes up or stays.
+const MODES: [Mode; 5] = [Mode::U, Mode::S, Mode::M, Mode::Vu, Mode::Vs];
+
+// The pairs between which there are external traps.
+fn is_external_pair(from: Mode, to: Mode) -> bool {
+    matches!(
+        (from, to),
+        (Mode::U, Mode::S | Mode::M)
+            | (Mode::S, Mode::M)
+            | (Mode::Vu, Mode::Vs | Mode::S | Mode::M)
+            | (Mode::Vs, Mode::S | Mode::M)
+    )
+}
+
+// The controls that enable a mode alone, with every trap-enable bit.
+fn alone(mode: Mode) -> (u64, u64) {
+    match mode {
+        Mode::U => (STE_MTE | U, STE_MTE),
+        Mode::S => (STE_MTE | S, STE_MTE),
+        Mode::M => (STE_MTE | M, STE_MTE),
+        Mode::Vu => (STE_MTE, STE_MTE | U),
+        Mode::Vs => (STE_MTE, STE_MTE | S),
+    }
+}
+
+#[test]
+fn between_the_seventeen_other_pairs_of_modes_no_external_trap_is_recorded(rt: HostRuntime) {
+    for from in MODES {
+        for to in MODES {
+            let (m, vs) = alone(from);
+            let trap = transfer(from, to, XferType::Exception);
+            let same = from == to;
+            let want = if same {
+                pushes(SOURCE, TARGET, XferType::Exception)
+            } else if is_external_pair(from, to) {
+                pushes(SOURCE, 0, XferType::Exception)
+            } else {
+                Act::Nothing
+            };
+            assert_eq!(rt;
+                act(trap, legal_m(m), legal_vs(vs), false),
+                want,
+                "{from:?} to {to:?} with every trap-enable bit"
+            );
+        }
+    }
+}
+
+#[test]
+fn the_record_of_a_branch_has_its_misprediction(rt: HostRuntime) {
+    for kind in [XferType::NotTaken, XferType::Taken] {
+        for misp in [false, true] {
+            let branch = Transfer {
+                misp,
+                ..transfer(Mode::M, Mode::M, kind)
+            };
+            let want = Act::Push(Record {
+                misp,
+                ..record(SOURCE, TARGET, kind)
+            });
+            let lets_in = 0x10_0000_0004; // NTBREN and M
+            assert_eq!(rt;
+                act(branch, legal_m(lets_in), legal_vs(0), false),
+                want,
+                "{kind:?} with {misp}"
+            );
+        }
+    }
 }

@@ -3,7 +3,7 @@ use Rattle.std.proofs.Common.{◌≡◌, ◌⊎◌, inl, inr, ℕ, List, None, S
 use Rattle.std.specs.declared.option.Option.{Option}
 use Rattle.std.specs.declared.string.String.{String}
 use Rattle.ctr_port.specs.Counts.{Rose}
-use Rattle.rv_hart.specs.State.{HartState}
+use Rattle.rv_hart.specs.Hart.{HartState}
 use Rattle.ctrsim_cli.specs.declared.fault.Fault.{Fault}
 use Rattle.ctrsim_cli.specs.declared.fault.Fault.TheVariants.{Usage, ReadFault, WriteFault, Memory, OtherForm}
 use Rattle.ctrsim_cli.specs.Fault.{status_of}

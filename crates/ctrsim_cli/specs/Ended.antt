@@ -3,7 +3,7 @@ use Rattle.std.specs.Prelude.{◌≡◌, ℕ, List, [], ◌∷◌, Option, IfSom
 use Rattle.std.specs.Io.KnownBytes.{Consumes, IsAtEnd}
 use Rattle.std.specs.declared.string.String.{String}
 use Rattle.ctr_port.specs.Appended.{GainsPart}
-use Rattle.rv_hart.specs.State.{HartState, fresh_harts}
+use Rattle.rv_hart.specs.Hart.{HartState, fresh_harts}
 use Rattle.ctrsim_cli.specs.SmallForm.{Schedule, IsSmallForm}
 use Rattle.ctrsim_cli.specs.Left.{output, ran_harts}
 

@@ -3,7 +3,7 @@ use Rattle.std.specs.Prelude.{◌≡◌, ℕ, ◌≤◌, ◌⊎◌, List, length
 use Rattle.std.specs.declared.string.String.{String}
 use Rattle.ctr_port.specs.Counts.{Rose}
 use Rattle.ctr_port.specs.Appended.{GainsPart}
-use Rattle.rv_hart.specs.State.{HartState}
+use Rattle.rv_hart.specs.Hart.{HartState}
 use Rattle.ctrsim_cli.specs.declared.fault.Fault.{Fault}
 use Rattle.ctrsim_cli.specs.declared.fault.Fault.TheVariants.{Usage, ReadFault, WriteFault, Memory, OtherForm}
 use Rattle.ctrsim_cli.specs.SmallForm.{Schedule, IsSmallForm}

@@ -3,12 +3,12 @@ use Rattle.std.specs.Prelude.{ℕ, ◌*◌, ◌-◌, ◌%◌, ◌^◌, List, map
 use Rattle.ctr_csrs.specs.declared.mode.Mode.{Mode}
 use Rattle.ctr_csrs.specs.declared.mode.Mode.TheVariants as modes
 use Rattle.ctr_buffer.specs.Entry.{Entry}
-use Rattle.ctr_buffer.specs.Live.{live}
+use Rattle.ctr_buffer.specs.MachineState.{live}
 use Rattle.ctr_buffer.specs.History.{stack_of}
 use Rattle.perf_sample.specs.declared.sample.Branch.{Branch}
 use Rattle.perf_sample.specs.declared.sample.Sample.{Sample}
 use Rattle.perf_sample.specs.PerfType.{perf_type_of}
-use Rattle.rv_hart.specs.Lone.{Told}
+use Rattle.rv_hart.specs.Lone.{RunState}
 
 -- hypervisor, kernel, user, guest kernel and guest user
 abbrev pub misc_of : Mode → ℕ
@@ -44,5 +44,5 @@ sample_at mode pc entries = record {
 }
 
 -- the mode and the program counter of a state, and the entries that its history leaves, the youngest first
-abbrev pub sample_of : Told → Sample
-sample_of t = sample_at t.live.core.mode t.live.core.pc (stack_of t.history).slots
+abbrev pub sample_of : RunState → Sample
+sample_of t = sample_at t.state.core.mode t.state.core.pc (stack_of t.history).slots

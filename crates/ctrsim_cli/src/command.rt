@@ -1,6 +1,6 @@
 // The top call.
 ghost use Rattle.std.specs.Prelude.{◌≡◌, ◌≤◌, length};
-ghost use Rattle.rv_hart.specs.State.{fresh_harts};
+ghost use Rattle.rv_hart.specs.Hart.{fresh_harts};
 ghost use Rattle.ctrsim_cli.specs.Form.{schedule_of};
 ghost use Rattle.ctrsim_cli.specs.Performed.{Performed, Answered, Ran, Ends, ReadCause, WriteCause};
 ghost use Rattle.ctrsim_cli.specs.Ended.{IsRun};

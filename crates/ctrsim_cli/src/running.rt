@@ -2,11 +2,11 @@
 ghost use Rattle.std.specs.Prelude.{◌≡◌, ◌≤◌, Some};
 ghost use Rattle.perf_sample.specs.Layout.{Fits};
 ghost use Rattle.rv_hart.specs.Memory.{memory_of};
-ghost use Rattle.rv_hart.specs.Lone.{first_state, advanced};
-ghost use Rattle.rv_hart.specs.State.{fresh_hart, live_of};
+ghost use Rattle.rv_hart.specs.Lone.{first_state, after_steps};
+ghost use Rattle.rv_hart.specs.Hart.{fresh_hart, machine_of};
 ghost use Rattle.ctrsim_cli.specs.Form.{schedule_of};
 ghost use Rattle.ctrsim_cli.specs.Sample.{sample_of};
-ghost use Rattle.ctrsim_cli.specs.Left.{told_of, ran_hart};
+ghost use Rattle.ctrsim_cli.specs.Left.{run_of, ran_hart};
 
 use crate::sampling::sample;
 use crate::small_form::Form;
@@ -30,7 +30,7 @@ fn prepare(hart: &mut Hart<Store>, form: &Form<'_>)
 fn run_task(hart: &mut Hart<Store>, mem: &mut TaskMem, form: &Form<'_>)
     requires none { hart.old.steps ≡ 0 }
     requires few { form.now.steps ≤ 1000000000 }
-    ensures live { live_of hart.new mem.new ≡ advanced (schedule_of form.now).task 0 form.now.steps (live_of hart.old mem.old) }
+    ensures state { machine_of hart.new mem.new ≡ after_steps (schedule_of form.now).task 0 form.now.steps (machine_of hart.old mem.old) }
     ensures rest { hart.new ≡ record hart.old { core = hart.new.core; unit = hart.new.unit; steps = form.now.steps } }
 {
     let mut place = 0;
@@ -46,7 +46,7 @@ pub fn run_on(hart: &mut Hart<Store>, mem: &mut TaskMem, form: &Form<'_>) -> Sam
     requires image { mem.old ≡ memory_of form.now.image.now form.now.mem }
     requires few { form.now.steps ≤ 1000000000 }
     ensures hart { hart.new ≡ ran_hart (schedule_of form.now) }
-    ensures sample { result ≡ sample_of (told_of (schedule_of form.now)) }
+    ensures sample { result ≡ sample_of (run_of (schedule_of form.now)) }
     ensures fits { Fits 0x803 result }
 {
     lone_run_laws();

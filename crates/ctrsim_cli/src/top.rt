@@ -1,7 +1,7 @@
 // The top call.
 ghost use Rattle.std.specs.Prelude.{◌≡◌, ◌↔◌, ◌⊎◌, ℕ, Some, None, [], List};
 ghost use Rattle.ctr_port.specs.Counts.{Rose};
-ghost use Rattle.rv_hart.specs.State.{fresh_harts};
+ghost use Rattle.rv_hart.specs.Hart.{fresh_harts};
 ghost use Rattle.ctrsim_cli.specs.Fault.{status_of, said_if};
 ghost use Rattle.ctrsim_cli.specs.SmallForm.{Schedule, IsSmallForm};
 ghost use Rattle.ctrsim_cli.specs.Ended.{Done, CutShort, Nothing, Refused, IsRun};

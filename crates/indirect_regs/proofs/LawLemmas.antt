@@ -3,6 +3,7 @@ use Rattle.std.proofs.Common.{ℕ, ◌≡◌, ◌≤◌, ◌<◌, nat_le, nat_lt
 use Rattle.std.proofs.lemmas.Bool.{and_from, le-leb, lt-ltb, cond-true}
 use Rattle.ctr_buffer.specs.declared.slot.Part.{Part}
 use Rattle.ctr_buffer.specs.declared.slot.Part.TheVariants as parts
+use Rattle.ctr_buffer.specs.Entry.{part_of}
 use Rattle.guest_modes.specs.declared.gating.CsrFault.{CsrFault}
 use Rattle.guest_modes.specs.declared.registers.Priv.{Priv}
 use Rattle.guest_modes.specs.Gate.{gated}
@@ -11,7 +12,7 @@ use Rattle.indirect_regs.specs.declared.accessing.CsrUse.TheVariants.{Read, Writ
 use Rattle.indirect_regs.specs.declared.port.PortReg.{PortReg}
 use Rattle.indirect_regs.specs.declared.port.PortReg.TheVariants.{Mctrctl, Vsctrctl, Depth, Status, Select, From, To, Kind}
 use Rattle.indirect_regs.specs.Unit.{UnitState, after_any}
-use Rattle.indirect_regs.specs.Ports.{names_entry, entry_named, part_of, read}
+use Rattle.indirect_regs.specs.Ports.{names_entry, entry_named, read}
 use Rattle.indirect_regs.specs.Table.{Row, row_of, part_read}
 use Rattle.indirect_regs.specs.Access.{Accessed, new_value, put_in, used, passed, is_write}
 use Rattle.indirect_regs.specs.Laws.{MonitorReachesAsM, EventsMakeTheBuffer}

@@ -1,4 +1,4 @@
--- Laws of accesses and of a monitor's door.
+-- Laws of accesses and of a monitor's port.
 use Rattle.std.specs.Prelude.{◌≡◌, ℕ, Ok}
 use Rattle.ctr_csrs.specs.declared.mode.Mode.{Mode}
 use Rattle.ctr_csrs.specs.declared.mode.Mode.TheVariants as modes

@@ -3,3 +3,5 @@ pub mod Ports
 pub mod Table
 pub mod Access
 pub mod Laws
+pub mod Facts
+pub mod FactLemmas

@@ -1,6 +1,6 @@
 -- The registers of the control transfer unit, each as its reader finds it and with what a write of it does (RISC-V
 -- Control Transfer Records 1.0, "CSRs" and "Entry Registers").
-use Rattle.std.specs.Prelude.{◌≡◌, ℕ, ◌*◌, ◌/◌, ◌%◌, ◌^◌, ◌<◌, ◌≤◌, Bool, ◌&&◌, cond, nat_eq, nat_lt, nat_le, Option, Some, None, bit_and}
+use Rattle.std.specs.Prelude.{◌≡◌, ℕ, ◌%◌, ◌<◌, ◌≤◌, Bool, ◌&&◌, cond, nat_eq, nat_lt, nat_le, Option, Some, None, bit_and}
 use Rattle.ctr_csrs.specs.ControlFigure.{m_mask, s_mask}
 use Rattle.ctr_csrs.specs.declared.depth.Depth.{Depth}
 use Rattle.ctr_csrs.specs.Depths.{code_of, depth_at, entries_of}
@@ -9,7 +9,7 @@ use Rattle.ctr_buffer.specs.declared.event.Event.{Event}
 use Rattle.ctr_buffer.specs.declared.event.Event.TheVariants.{Turn, SetDepth, Poke}
 use Rattle.ctr_buffer.specs.declared.slot.Part.{Part}
 use Rattle.ctr_buffer.specs.declared.slot.Part.TheVariants as parts
-use Rattle.ctr_buffer.specs.Entry.{Entry}
+use Rattle.ctr_buffer.specs.Entry.{Entry, FitsPart, part_of}
 use Rattle.ctr_buffer.specs.Stack.{Stack, size_of, entry_at}
 use Rattle.indirect_regs.specs.declared.port.PortReg.{PortReg}
 use Rattle.indirect_regs.specs.declared.port.PortReg.TheVariants.{Mctrctl, Vsctrctl, Depth as Depths, Status, Select, From, To, Kind}
@@ -27,15 +27,10 @@ number_named select = select % 256
 abbrev pub entry_named : Stack → ℕ → Entry
 entry_named s select = entry_at s (number_named select)
 
-abbrev pub part_of : Part → Entry → ℕ
-part_of parts.Source e = e.source
-part_of parts.Target e = e.target
-part_of parts.Kind e = e.kind
-
 -- what a part keeps of a value that is written to it
 abbrev pub part_kept : Part → ℕ → ℕ
 part_kept parts.Source value = value
-part_kept parts.Target value = value / 2 * 2
+part_kept parts.Target value = value
 part_kept parts.Kind value = value % 16
 
 -- what a register reads as
@@ -105,6 +100,6 @@ Legal Vsctrctl value = bit_and value s_mask ≡ value
 Legal Depths value = value < 5
 Legal Status value = word_of (record { wrptr = value % 256; frozen = frozen_in value }) ≡ value
 Legal Select value = value < 4096
-Legal From value = value < 2 ^ 64
-Legal To value = value % 2 ≡ 0
-Legal Kind value = value < 16
+Legal From value = FitsPart parts.Source value
+Legal To value = FitsPart parts.Target value
+Legal Kind value = FitsPart parts.Kind value

@@ -9,10 +9,11 @@ use Rattle.guest_modes.specs.Registers.{read_of, written_of}
 use Rattle.ctr_buffer.specs.declared.event.Event.{Event}
 use Rattle.ctr_buffer.specs.declared.slot.Part.{Part}
 use Rattle.ctr_buffer.specs.declared.slot.Part.TheVariants.{Source, Target, Kind}
+use Rattle.ctr_buffer.specs.Entry.{part_of}
 use Rattle.indirect_regs.specs.declared.port.PortReg.{PortReg}
 use Rattle.indirect_regs.specs.declared.port.PortReg.TheVariants.{Mctrctl, Vsctrctl, Depth, Status, Select}
 use Rattle.indirect_regs.specs.Unit.{UnitState}
-use Rattle.indirect_regs.specs.Ports.{read, event_of, changed, names_entry, entry_named, part_of, part_written}
+use Rattle.indirect_regs.specs.Ports.{read, event_of, changed, names_entry, entry_named, part_written}
 
 -- a register by number: what it reads as, where its select names an entry or it needs none; the event of the record
 -- buffer that a write of a value is; and what else the write changes, of the unit and of the other registers

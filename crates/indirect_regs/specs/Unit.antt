@@ -16,11 +16,15 @@ pub record UnitState : Type 0 where
   pub select : ℕ
   pub stack : Stack
 
--- what every unit keeps to
-pub record IsUnit (u : UnitState) : Type 0 where
+-- the controls and the select are what their registers can hold
+pub record HasControls (u : UnitState) : Type 0 where
   pub m : bit_and u.m m_mask ≡ u.m
   pub vs : bit_and u.vs s_mask ≡ u.vs
   pub select : u.select < 4096
+
+-- what every unit keeps to
+pub record IsUnit (u : UnitState) : Type 0 where
+  pub controls : HasControls u
   pub stack : IsStack u.stack
 
 -- a unit of this depth that nothing was recorded in or written to

@@ -20,17 +20,17 @@ pub enum PortReg {
     /// `siselect`, 12 bits.
     Select,
 
-    /// `sireg`: the source word of the entry that the select names.
+    /// `sireg`: the source word of the entry that the select names, all 64 bits.
     From,
 
-    /// `sireg2`: the target word of that entry.
+    /// `sireg2`: the target word of that entry, all 64 bits.
     To,
 
     /// `sireg3`: the code of its transfer type, 4 bits.
     Kind,
 }
 
-/// A monitor's door to a control transfer unit in Debug Mode. Each call but `accesses` counts as one access. Nothing that
+/// A monitor's port to a control transfer unit in Debug Mode. Each call but `accesses` counts as one access. Nothing that
 /// is done through it is recorded.
 ///
 /// A port means a unit, its number of accesses, and a rest. Of the rest it is known only whether two states of a port

@@ -1,9 +1,10 @@
 ghost use Rattle.std.specs.Prelude.{◌≡◌, ℕ, ◌%◌, ◌<◌, ◌≤◌, Option};
 ghost use Rattle.ctr_csrs.specs.Depths.{depth_at};
-ghost use Rattle.ctr_buffer.specs.History.{CanTake, FitsPart};
+ghost use Rattle.ctr_buffer.specs.Entry.{FitsPart, part_of};
+ghost use Rattle.ctr_buffer.specs.History.{CanTake};
 ghost use Rattle.ctr_buffer.specs.declared.event.Event.{Event};
 ghost use Rattle.indirect_regs.specs.Unit.{UnitState, IsUnit, fresh_unit, performed, after_any, CanTakeAny, cleared_unit};
-ghost use Rattle.indirect_regs.specs.Ports.{entry_named, part_of, part_kept, read, depth_written, part_written, event_of, changed, written, Selects, Legal};
+ghost use Rattle.indirect_regs.specs.Ports.{entry_named, part_kept, read, depth_written, part_written, event_of, changed, written, Selects, Legal};
 
 use crate::port::PortReg;
 use ctr_buffer::{CtrStore, Event, Part, Slot, perform};
@@ -144,12 +145,7 @@ impl<B: CtrStore> CtrUnit<B> {
         ensures is { result ≡ part_of part (entry_named self.now.stack select) }
         ensures fits { FitsPart part result }
     {
-        let slot = self.entry(select);
-        match part {
-            Part::Source => slot.source,
-            Part::Target => slot.target,
-            Part::Kind => u64::from(slot.kind),
-        }
+        self.entry(select).part(part)
     }
 
     // The event that a write of a register is.
@@ -235,8 +231,7 @@ fn kept(part: Part, value: u64) -> u64
     ensures fits { FitsPart part result }
 {
     match part {
-        Part::Source => value,
-        Part::Target => value / 2 * 2,
+        Part::Source | Part::Target => value,
         Part::Kind => value % 16,
     }
 }

@@ -5,9 +5,9 @@ use Rattle.ctr_buffer.specs.History.{after}
 use Rattle.ctr_buffer.specs.Stack.{Stack}
 use Rattle.indirect_regs.specs.Access.{Accessed}
 use Rattle.indirect_regs.specs.Unit.{after_any}
-use Rattle.rv_hart.specs.Core.{put, advanced}
+use Rattle.rv_hart.specs.Processor.{put, at_next}
 use Rattle.rv_hart.specs.Step.{any_event, by_access}
-use Rattle.rv_hart.specs.State.{HartState, ran, reached}
+use Rattle.rv_hart.specs.Hart.{HartState, ran, reached}
 
 pub folded_any : (s : Stack) (e : Option Event) → fold after s (any_event e) ≡ after_any s e
 folded_any s None = refl
@@ -16,5 +16,5 @@ folded_any s (Some e) = refl
 pub access_lands : (h : HartState) (a : Accessed) (rd word old : ℕ)
     → a.answer ≡ Ok old
     → a.unit.stack ≡ after_any h.unit.stack a.event
-    → record (reached h a) { core = advanced (put (reached h a).core rd old) } ≡ ran h (by_access a rd word h.core h.unit)
+    → record (reached h a) { core = at_next (put (reached h a).core rd old) } ≡ ran h (by_access a rd word h.core h.unit)
 access_lands h a rd word old answered buffer = rw (answered, folded_any h.unit.stack a.event, ← buffer) refl

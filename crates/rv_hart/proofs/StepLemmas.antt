@@ -26,15 +26,14 @@ use Rattle.rv_decode.specs.declared.instruction.Instr.{Instr}
 use Rattle.rv_decode.specs.declared.instruction.Instr.TheVariants.{Lui, Auipc, Jal, Jalr, Branch, Load, Store, AluImm, Alu, Csr, Fence, FenceI, Ecall, Ebreak, Mret, Sret, Wfi, CtrClr}
 use Rattle.rv_decode.specs.declared.operations.Width.{Width}
 use Rattle.rv_decode.specs.declared.operations.Width.TheVariants.{B, H, W, D}
-use Rattle.xfer_class.specs.Types.{type_of}
-use Rattle.xfer_class.specs.declared.types.XferType.{XferType}
+use Rattle.rv_hart.specs.declared.outcome.Jump.{Jump}
 use Rattle.rv_hart.specs.declared.outcome.Outcome.{Outcome}
 use Rattle.rv_hart.specs.declared.outcome.Outcome.TheVariants.{Goes, Returns, Raises}
-use Rattle.rv_hart.specs.Core.{CoreState, plus, reg, put}
+use Rattle.rv_hart.specs.Processor.{CoreState, plus, reg, put}
 use Rattle.rv_hart.specs.Memory.{base, place_of, bytes_of, loaded, stored}
-use Rattle.rv_hart.specs.Effect.{Effect, effect, even, raises, goes_to, jumps, branches, loads, loads_at, stores, stores_at, call_cause, machine_return, supervisor_return}
-use Rattle.rv_hart.specs.Records.{events_by, act_in}
-use Rattle.rv_hart.specs.Step.{Live, trap_transfer, return_transfer, jump_transfer, trapped, concluded, answered, clears, by_effect, executed, by_instruction, by_word, by_interrupt, fetched, lowered, raised, use_of, any_event}
+use Rattle.rv_hart.specs.Effect.{Effect, effect, even, jump_of, raises, goes_to, jumps, branches, loads, loads_at, stores, stores_at, call_cause, machine_return, supervisor_return}
+use Rattle.rv_hart.specs.Transfers.{events_by, act_in}
+use Rattle.rv_hart.specs.Step.{MachineState, trap_transfer, return_transfer, jump_transfer, trapped, concluded, answered, clears, by_effect, executed, by_instruction, by_word, by_interrupt, fetched, lowered, raised, use_of, any_event}
 use Rattle.rv_hart.specs.StepLaws.{Leaves, ExceptionsWriteNothing, MemoryKeepsItsSize, NoStepChangesX0, AtMostOneEvent}
 
 -- what holds of both values of a choice holds of the choice
@@ -44,21 +43,21 @@ of_either P false x y at_x at_y = at_y
 
 -- every effect has one of these shapes: one register is written, nothing is, some bytes of memory are; a return; an exception
 pub record Shapes (P : Effect → Type 0) (c : CoreState) (bytes : List ℕ) : Type 0 where
-  pub writes : (rd value : ℕ) (kind : Option XferType) (pc : ℕ) → P (record { core = put c rd value; bytes = bytes; outcome = Goes kind pc })
-  pub goes : (kind : Option XferType) (pc : ℕ) → P (record { core = c; bytes = bytes; outcome = Goes kind pc })
+  pub writes : (rd value : ℕ) (kind : Option Jump) (pc : ℕ) → P (record { core = put c rd value; bytes = bytes; outcome = Goes kind pc })
+  pub goes : (kind : Option Jump) (pc : ℕ) → P (record { core = c; bytes = bytes; outcome = Goes kind pc })
   pub stores : (width : Width) (value at pc : ℕ) → at + bytes_of width ≤ length bytes
       → P (record { core = c; bytes = stored width value bytes at; outcome = Goes None pc })
   pub returns : (ret : Ret) → P (record { core = c; bytes = bytes; outcome = Returns ret })
   pub raises : (cause value : ℕ) → P (raises cause value c bytes)
 
 pub of_jump : (P : Effect → Type 0) (c : CoreState) (bytes : List ℕ) → Shapes P c bytes
-    → (kind : Option XferType) (rd target : ℕ) → P (jumps kind rd target c bytes)
+    → (kind : Option Jump) (rd target : ℕ) → P (jumps kind rd target c bytes)
 of_jump P c bytes h kind rd target =
     of_either P (nat_eq (target % 4) 0) (goes_to kind target (put c rd (plus c.pc 4)) bytes) (raises 0 target c bytes)
     (h.writes rd (plus c.pc 4) kind target) (h.raises 0 target)
 
 pub of_branch : (P : Effect → Type 0) (c : CoreState) (bytes : List ℕ) → Shapes P c bytes
-    → (taken : Bool) (kind : Option XferType) (target : ℕ) → P (branches taken kind target c bytes)
+    → (taken : Bool) (kind : Option Jump) (target : ℕ) → P (branches taken kind target c bytes)
 of_branch P c bytes h true kind target =
     of_either P (nat_eq (target % 4) 0) (goes_to kind target c bytes) (raises 0 target c bytes) (h.goes kind target) (h.raises 0 target)
 of_branch P c bytes h false kind target = h.goes kind (plus c.pc 4)
@@ -122,11 +121,11 @@ pub of_effect : (P : Effect → Type 0) (c : CoreState) (bytes : List ℕ) → S
     → (i : Instr) (word : ℕ) → P (effect i word c bytes)
 of_effect P c bytes h (Lui rd imm) word = h.writes rd imm None (plus c.pc 4)
 of_effect P c bytes h (Auipc rd imm) word = h.writes rd (plus c.pc imm) None (plus c.pc 4)
-of_effect P c bytes h (Jal rd off) word = of_jump P c bytes h (type_of (Jal rd off) false) rd (plus c.pc off)
-of_effect P c bytes h (Jalr rd rs1 off) word = of_jump P c bytes h (type_of (Jalr rd rs1 off) false) rd (even (plus (reg c rs1) off))
+of_effect P c bytes h (Jal rd off) word = of_jump P c bytes h (jump_of (Jal rd off) false) rd (plus c.pc off)
+of_effect P c bytes h (Jalr rd rs1 off) word = of_jump P c bytes h (jump_of (Jalr rd rs1 off) false) rd (even (plus (reg c rs1) off))
 of_effect P c bytes h (Branch condition rs1 rs2 off) word =
     let taken = holds condition (reg c rs1) (reg c rs2) in
-    of_branch P c bytes h taken (type_of (Branch condition rs1 rs2 off) taken) (plus c.pc off)
+    of_branch P c bytes h taken (jump_of (Branch condition rs1 rs2 off) taken) (plus c.pc off)
 of_effect P c bytes h (Load width signed rd rs1 off) word = of_load P c bytes h width signed rd (plus (reg c rs1) off)
 of_effect P c bytes h (Store width rs1 rs2 off) word = of_store P c bytes h width (reg c rs2) (plus (reg c rs1) off)
 of_effect P c bytes h (AluImm op rd rs1 imm) word = h.writes rd (alu.value op (reg c rs1) imm) None (plus c.pc 4)
@@ -191,15 +190,15 @@ effect_size i word c bytes =
     })
     i word
 
-pub instruction_size : (i : Option Instr) (word : ℕ) (s : Live) → length (by_instruction i word s).mem ≡ length s.mem
+pub instruction_size : (i : Option Instr) (word : ℕ) (s : MachineState) → length (by_instruction i word s).mem ≡ length s.mem
 instruction_size None word s = refl
 instruction_size (Some i) word s = effect_size i word s.core s.mem
 
-pub word_size : (w : Option ℕ) (s : Live) → length (by_word w s).mem ≡ length s.mem
+pub word_size : (w : Option ℕ) (s : MachineState) → length (by_word w s).mem ≡ length s.mem
 word_size None s = refl
 word_size (Some word) s = instruction_size (decoded word) word s
 
-pub interrupt_size : (i : Option ℕ) (s : Live) → length (by_interrupt i s).mem ≡ length s.mem
+pub interrupt_size : (i : Option ℕ) (s : MachineState) → length (by_interrupt i s).mem ≡ length s.mem
 interrupt_size (Some i) s = refl
 interrupt_size None s = word_size (fetched s) s
 
@@ -354,15 +353,15 @@ executed_few Wfi word c u bytes =
     let e = effect Wfi word c bytes in concluded_few e.outcome e.core u
 
 -- and so on up to the step
-pub instruction_x0 : (i : Option Instr) (word : ℕ) (s : Live) → slice_index (by_instruction i word s).step.core.x 0 ≡ slice_index s.core.x 0
+pub instruction_x0 : (i : Option Instr) (word : ℕ) (s : MachineState) → slice_index (by_instruction i word s).step.core.x 0 ≡ slice_index s.core.x 0
 instruction_x0 None word s = refl
 instruction_x0 (Some i) word s = executed_x0 i word s.core s.unit s.mem
 
-pub word_x0 : (w : Option ℕ) (s : Live) → slice_index (by_word w s).step.core.x 0 ≡ slice_index s.core.x 0
+pub word_x0 : (w : Option ℕ) (s : MachineState) → slice_index (by_word w s).step.core.x 0 ≡ slice_index s.core.x 0
 word_x0 None s = refl
 word_x0 (Some word) s = instruction_x0 (decoded word) word s
 
-pub interrupt_x0 : (i : Option ℕ) (s : Live) → slice_index (by_interrupt i s).step.core.x 0 ≡ slice_index s.core.x 0
+pub interrupt_x0 : (i : Option ℕ) (s : MachineState) → slice_index (by_interrupt i s).step.core.x 0 ≡ slice_index s.core.x 0
 interrupt_x0 (Some i) s = refl
 interrupt_x0 None s = word_x0 (fetched s) s
 
@@ -371,15 +370,15 @@ no_step_changes_x0 pending s =
     let now = raised pending s in
     interrupt_x0 (picked now.core.csrs now.core.mode) now
 
-pub instruction_few : (i : Option Instr) (word : ℕ) (s : Live) → length (by_instruction i word s).step.events ≤ 1
+pub instruction_few : (i : Option Instr) (word : ℕ) (s : MachineState) → length (by_instruction i word s).step.events ≤ 1
 instruction_few None word s = trapped_few (Exception 2) word s.core s.unit
 instruction_few (Some i) word s = executed_few i word s.core s.unit s.mem
 
-pub word_few : (w : Option ℕ) (s : Live) → length (by_word w s).step.events ≤ 1
+pub word_few : (w : Option ℕ) (s : MachineState) → length (by_word w s).step.events ≤ 1
 word_few None s = trapped_few (Exception 1) s.core.pc s.core s.unit
 word_few (Some word) s = instruction_few (decoded word) word s
 
-pub interrupt_few : (i : Option ℕ) (s : Live) → length (by_interrupt i s).step.events ≤ 1
+pub interrupt_few : (i : Option ℕ) (s : MachineState) → length (by_interrupt i s).step.events ≤ 1
 interrupt_few (Some i) s = trapped_few (Interrupt i) 0 (lowered i s.core) s.unit
 interrupt_few None s = word_few (fetched s) s
 

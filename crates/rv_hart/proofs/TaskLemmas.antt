@@ -20,9 +20,7 @@ use Rattle.rv_hart.specs.Lone.{first_state}
 -- the first state keeps to what every unit keeps to
 pub first_unit : (t : Task) → IsUnit (first_state t).unit
 first_unit t = record {
-  m = mask_twice m_mask t.mctrctl;
-  vs = mask_twice s_mask t.vsctrctl;
-  select = omega arith;
+  controls = record { m = mask_twice m_mask t.mctrctl; vs = mask_twice s_mask t.vsctrctl; select = omega arith };
   stack = record { full = length-replicate (entries_of t.depth) zero_entry; within = omega (arith, least_entries t.depth) };
 }
 

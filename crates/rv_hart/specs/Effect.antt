@@ -1,6 +1,7 @@
 -- What an instruction does to the registers and to memory, and how it goes on (RISC-V Unprivileged ISA, RV64I, M and
 -- Zifencei; Privileged Architecture for ECALL and the trap returns). CSR instructions and SCTRCLR stand in Step.
 use Rattle.std.specs.Prelude.{◌≡◌, IsTrue, ℕ, ◌*◌, ◌/◌, ◌%◌, Bool, true, false, cond, nat_eq, List, length, Option, Some, None}
+use Rattle.std.specs.Option.{IfSome}
 use Rattle.ctr_csrs.specs.declared.mode.Mode.{Mode}
 use Rattle.ctr_csrs.specs.declared.mode.Mode.TheVariants as modes
 use Rattle.guest_modes.specs.declared.returning.Ret.TheVariants as rets
@@ -13,14 +14,21 @@ use Rattle.rv_alu.specs.Value.{value}
 use Rattle.rv_alu.specs.Holds.{holds}
 use Rattle.xfer_class.specs.declared.types.XferType.{XferType}
 use Rattle.xfer_class.specs.Types.{type_of}
+use Rattle.xfer_class.specs.Missed.{missed_of}
+use Rattle.ctr_rules.specs.Admitted.{is_branch}
+use Rattle.rv_hart.specs.declared.outcome.Jump.{Jump}
 use Rattle.rv_hart.specs.declared.outcome.Outcome.{Outcome}
 use Rattle.rv_hart.specs.declared.outcome.Outcome.TheVariants.{Goes, Returns, Raises}
 use Rattle.rv_hart.specs.Memory.{bytes_of, place_of, loaded, stored}
-use Rattle.rv_hart.specs.Core.{CoreState, plus, reg, put}
+use Rattle.rv_hart.specs.Processor.{CoreState, plus, reg, put}
+
+-- only a branch is missed by the predictor
+abbrev pub IsJump : Jump → Type 0
+IsJump j = j.misp ≡ true → is_branch j.kind ≡ true
 
 -- what holds of every outcome: addresses of instructions are multiples of 4, and exceptions are those of the architecture
 abbrev pub IsSound : Outcome → Type 0
-IsSound (Goes kind pc) = pc % 4 ≡ 0
+IsSound (Goes jump pc) = (pc % 4 ≡ 0) × IfSome jump IsJump
 IsSound (Returns ret) = Unit {0}
 IsSound (Raises cause value) = IsTrue (is_cause (Exception cause))
 
@@ -47,19 +55,28 @@ gives rd value c bytes = goes_on (put c rd value) bytes
 abbrev pub even : ℕ → ℕ
 even n = n / 2 * 2
 
--- a transfer of this type to a target
-abbrev pub goes_to : Option XferType → ℕ → CoreState → List ℕ → Effect
-goes_to kind target c bytes = record { core = c; bytes = bytes; outcome = Goes kind target }
+-- the jump or branch that an instruction is: its type, and whether the predictor missed it; the test is whether a branch
+-- was taken
+abbrev pub jump_with : Bool → Option XferType → Option Jump
+jump_with misp None = None
+jump_with misp (Some kind) = Some (record { kind = kind; misp = misp })
+
+abbrev pub jump_of : Instr → Bool → Option Jump
+jump_of i taken = jump_with (missed_of i taken) (type_of i taken)
+
+-- a jump or branch to a target
+abbrev pub goes_to : Option Jump → ℕ → CoreState → List ℕ → Effect
+goes_to jump target c bytes = record { core = c; bytes = bytes; outcome = Goes jump target }
 
 -- a jump to a target, which must be a multiple of 4, with the address after the jump in rd
-abbrev pub jumps : Option XferType → ℕ → ℕ → CoreState → List ℕ → Effect
-jumps kind rd target c bytes =
-    cond (nat_eq (target % 4) 0) (goes_to kind target (put c rd (plus c.pc 4)) bytes) (raises 0 target c bytes)
+abbrev pub jumps : Option Jump → ℕ → ℕ → CoreState → List ℕ → Effect
+jumps jump rd target c bytes =
+    cond (nat_eq (target % 4) 0) (goes_to jump target (put c rd (plus c.pc 4)) bytes) (raises 0 target c bytes)
 
 -- a branch that is taken, to a target that must be a multiple of 4, or one that isn't taken
-abbrev pub branches : Bool → Option XferType → ℕ → CoreState → List ℕ → Effect
-branches true kind target c bytes = cond (nat_eq (target % 4) 0) (goes_to kind target c bytes) (raises 0 target c bytes)
-branches false kind target c bytes = goes_to kind (plus c.pc 4) c bytes
+abbrev pub branches : Bool → Option Jump → ℕ → CoreState → List ℕ → Effect
+branches true jump target c bytes = cond (nat_eq (target % 4) 0) (goes_to jump target c bytes) (raises 0 target c bytes)
+branches false jump target c bytes = goes_to jump (plus c.pc 4) c bytes
 
 -- a load from a place, if it is one
 abbrev pub loads_at : Option ℕ → Width → Bool → ℕ → ℕ → CoreState → List ℕ → Effect
@@ -106,11 +123,11 @@ supervisor_return modes.Vu word = Raises 22 word
 abbrev pub effect : Instr → ℕ → CoreState → List ℕ → Effect
 effect (Lui rd imm) word c bytes = gives rd imm c bytes
 effect (Auipc rd imm) word c bytes = gives rd (plus c.pc imm) c bytes
-effect (Jal rd off) word c bytes = jumps (type_of (Jal rd off) false) rd (plus c.pc off) c bytes
-effect (Jalr rd rs1 off) word c bytes = jumps (type_of (Jalr rd rs1 off) false) rd (even (plus (reg c rs1) off)) c bytes
+effect (Jal rd off) word c bytes = jumps (jump_of (Jal rd off) false) rd (plus c.pc off) c bytes
+effect (Jalr rd rs1 off) word c bytes = jumps (jump_of (Jalr rd rs1 off) false) rd (even (plus (reg c rs1) off)) c bytes
 effect (Branch condition rs1 rs2 off) word c bytes =
     let taken = holds condition (reg c rs1) (reg c rs2) in
-    branches taken (type_of (Branch condition rs1 rs2 off) taken) (plus c.pc off) c bytes
+    branches taken (jump_of (Branch condition rs1 rs2 off) taken) (plus c.pc off) c bytes
 effect (Load width signed rd rs1 off) word c bytes = loads width signed rd (plus (reg c rs1) off) c bytes
 effect (Store width rs1 rs2 off) word c bytes = stores width (reg c rs2) (plus (reg c rs1) off) c bytes
 effect (AluImm op rd rs1 imm) word c bytes = gives rd (value op (reg c rs1) imm) c bytes

@@ -1,9 +1,9 @@
 pub mod Memory
-pub mod Core
+pub mod Processor
 pub mod Effect
-pub mod Records
+pub mod Transfers
 pub mod Step
-pub mod State
+pub mod Hart
 pub mod Task
 pub mod Lone
 pub mod StepLaws

@@ -30,15 +30,16 @@ use Rattle.rv_decode.specs.declared.operations.Width.TheVariants.{W}
 use Rattle.rv_decode.specs.Rows.{decoded}
 use Rattle.xfer_class.specs.declared.types.XferType.{XferType}
 use Rattle.xfer_class.specs.declared.types.XferType.TheVariants as types
+use Rattle.rv_hart.specs.declared.outcome.Jump.{Jump}
 use Rattle.rv_hart.specs.declared.outcome.Outcome.{Outcome}
 use Rattle.rv_hart.specs.declared.outcome.Outcome.TheVariants.{Goes, Returns, Raises}
 use Rattle.rv_hart.specs.Memory.{place_of, number_at}
-use Rattle.rv_hart.specs.Core.{CoreState, reg, put, advanced}
+use Rattle.rv_hart.specs.Processor.{CoreState, reg, put, at_next}
 use Rattle.rv_hart.specs.Effect.{Effect, effect}
-use Rattle.rv_hart.specs.Records.{act_in, events_by, frozen_by}
+use Rattle.rv_hart.specs.Transfers.{act_in, events_by, frozen_by}
 
 -- a hart that runs a task: its core and its control transfer unit, and the memory of the task
-pub record Live : Type 0 where
+pub record MachineState : Type 0 where
   pub core : CoreState
   pub unit : UnitState
   pub mem : List ℕ
@@ -78,6 +79,7 @@ trap_transfer trap c = record {
   target = handler_of c.csrs c.mode trap;
   breakpoint = is_breakpoint trap;
   lcofi = is_overflow trap;
+  misp = false;
 }
 
 -- a trap is taken
@@ -102,6 +104,7 @@ return_transfer ret c = record {
   target = pc_after c.csrs ret;
   breakpoint = false;
   lcofi = false;
+  misp = false;
 }
 
 abbrev pub returned : Ret → CoreState → UnitState → Step
@@ -111,24 +114,25 @@ returned ret c u =
     u
 
 -- a jump or a branch, which stays in its mode
-abbrev pub jump_transfer : XferType → ℕ → CoreState → Transfer
-jump_transfer kind pc c = record {
+abbrev pub jump_transfer : Jump → ℕ → CoreState → Transfer
+jump_transfer jump pc c = record {
   from = c.mode;
   to = c.mode;
-  kind = kind;
+  kind = jump.kind;
   source = c.pc;
   target = pc;
   breakpoint = false;
   lcofi = false;
+  misp = jump.misp;
 }
 
-abbrev pub went : Option XferType → ℕ → CoreState → UnitState → Step
+abbrev pub went : Option Jump → ℕ → CoreState → UnitState → Step
 went None pc c u = record { core = record c { pc = pc }; unit = u; events = [] }
-went (Some kind) pc c u = carried (jump_transfer kind pc c) (record c { pc = pc }) u
+went (Some jump) pc c u = carried (jump_transfer jump pc c) (record c { pc = pc }) u
 
 -- how a step ends by the outcome of its instruction
 abbrev pub concluded : Outcome → CoreState → UnitState → Step
-concluded (Goes kind pc) c u = went kind pc c u
+concluded (Goes jump pc) c u = went jump pc c u
 concluded (Returns ret) c u = returned ret c u
 concluded (Raises cause value) c u = trapped (Exception cause) value c u
 
@@ -159,7 +163,7 @@ refused Virtual word c u = trapped (Exception 22) word c u
 -- an access to a register: rd takes the old value
 abbrev pub answered : Result ℕ CsrFault → Accessed → ℕ → ℕ → CoreState → UnitState → Step
 answered (Ok old) a rd word c u = record {
-  core = advanced (put (record c { csrs = a.registers }) rd old);
+  core = at_next (put (record c { csrs = a.registers }) rd old);
   unit = a.unit;
   events = any_event a.event;
 }
@@ -172,7 +176,7 @@ by_access a rd word c u = answered a.answer a rd word c u
 abbrev pub clears : Mode → ℕ → CoreState → UnitState → Step
 clears modes.U word c u = trapped (Exception 2) word c u
 clears modes.Vu word c u = trapped (Exception 22) word c u
-clears _ word c u = record { core = advanced c; unit = u; events = events.Clear ∷ [] }
+clears _ word c u = record { core = at_next c; unit = u; events = events.Clear ∷ [] }
 
 abbrev pub by_effect : Effect → UnitState → Step
 by_effect e u = concluded e.outcome e.core u
@@ -189,7 +193,7 @@ pub record Made : Type 0 where
   pub mem : List ℕ
 
 -- the word is decoded; an unknown word is an illegal instruction
-abbrev pub by_instruction : Option Instr → ℕ → Live → Made
+abbrev pub by_instruction : Option Instr → ℕ → MachineState → Made
 by_instruction None word s = record { step = trapped (Exception 2) word s.core s.unit; mem = s.mem }
 by_instruction (Some i) word s = record {
   step = executed i word s.core s.unit s.mem;
@@ -201,11 +205,11 @@ abbrev pub fetched_at : Option ℕ → List ℕ → Option ℕ
 fetched_at None bytes = None
 fetched_at (Some at) bytes = Some (number_at W bytes at)
 
-abbrev pub fetched : Live → Option ℕ
+abbrev pub fetched : MachineState → Option ℕ
 fetched s = fetched_at (place_of (length s.mem) s.core.pc 4) s.mem
 
 -- there is no word: an instruction access fault
-abbrev pub by_word : Option ℕ → Live → Made
+abbrev pub by_word : Option ℕ → MachineState → Made
 by_word None s = record { step = trapped (Exception 1) s.core.pc s.core s.unit; mem = s.mem }
 by_word (Some word) s = by_instruction (decoded word) word s
 
@@ -213,27 +217,27 @@ by_word (Some word) s = by_instruction (decoded word) word s
 abbrev pub lowered : ℕ → CoreState → CoreState
 lowered i c = record c { csrs = record c.csrs { mip = bit_and c.csrs.mip (2 ^ 64 - 1 - 2 ^ i) } }
 
-abbrev pub by_interrupt : Option ℕ → Live → Made
+abbrev pub by_interrupt : Option ℕ → MachineState → Made
 by_interrupt (Some i) s = record { step = trapped (Interrupt i) 0 (lowered i s.core) s.unit; mem = s.mem }
 by_interrupt None s = by_word (fetched s) s
 
 -- interrupts become pending
-abbrev pub raised : ℕ → Live → Live
+abbrev pub raised : ℕ → MachineState → MachineState
 raised pending s = record s { core = record s.core { csrs = record s.core.csrs { mip = bit_or s.core.csrs.mip pending } } }
 
-abbrev pub made : Live → Made
+abbrev pub made : MachineState → Made
 made s = by_interrupt (picked s.core.csrs s.core.mode) s
 
 -- the step of a hart where these interrupts become pending: bit i is interrupt i
-abbrev pub step_of : ℕ → Live → Made
+abbrev pub step_of : ℕ → MachineState → Made
 step_of pending s = made (raised pending s)
 
-abbrev pub events_of : ℕ → Live → List Event
+abbrev pub events_of : ℕ → MachineState → List Event
 events_of pending s = (step_of pending s).step.events
 
 -- the state after a step: the record buffer is what its events make of the one before
-abbrev pub landed : UnitState → Made → Live
+abbrev pub landed : UnitState → Made → MachineState
 landed u m = record { core = m.step.core; unit = record m.step.unit { stack = fold after u.stack m.step.events }; mem = m.mem }
 
-abbrev pub next : ℕ → Live → Live
+abbrev pub next : ℕ → MachineState → MachineState
 next pending s = landed s.unit (step_of pending s)

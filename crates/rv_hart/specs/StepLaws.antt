@@ -3,9 +3,9 @@ use Rattle.std.specs.Prelude.{◌≡◌, ℕ, ◌≤◌, List, length, slice_ind
 use Rattle.rv_decode.specs.declared.instruction.Instr.{Instr}
 use Rattle.rv_hart.specs.declared.outcome.Outcome.{Outcome}
 use Rattle.rv_hart.specs.declared.outcome.Outcome.TheVariants.{Goes, Returns, Raises}
-use Rattle.rv_hart.specs.Core.{CoreState}
+use Rattle.rv_hart.specs.Processor.{CoreState}
 use Rattle.rv_hart.specs.Effect.{Effect, effect}
-use Rattle.rv_hart.specs.Step.{Live, next, events_of}
+use Rattle.rv_hart.specs.Step.{MachineState, next, events_of}
 
 -- every register and every byte of memory is as it was, unless the instruction goes on at an address
 abbrev pub Leaves : Outcome → Effect → CoreState → List ℕ → Type 0
@@ -20,12 +20,12 @@ ExceptionsWriteNothing =
 
 -- memory keeps its size
 abbrev pub MemoryKeepsItsSize : Type 0
-MemoryKeepsItsSize = (pending : ℕ) (s : Live) → length (next pending s).mem ≡ length s.mem
+MemoryKeepsItsSize = (pending : ℕ) (s : MachineState) → length (next pending s).mem ≡ length s.mem
 
 -- no step changes x0
 abbrev pub NoStepChangesX0 : Type 0
-NoStepChangesX0 = (pending : ℕ) (s : Live) → slice_index (next pending s).core.x 0 ≡ slice_index s.core.x 0
+NoStepChangesX0 = (pending : ℕ) (s : MachineState) → slice_index (next pending s).core.x 0 ≡ slice_index s.core.x 0
 
 -- a step is at most one event of the record buffer
 abbrev pub AtMostOneEvent : Type 0
-AtMostOneEvent = (pending : ℕ) (s : Live) → length (events_of pending s) ≤ 1
+AtMostOneEvent = (pending : ℕ) (s : MachineState) → length (events_of pending s) ≤ 1

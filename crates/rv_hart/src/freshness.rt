@@ -8,7 +8,7 @@ ghost use Rattle.ctr_csrs.specs.declared.depth.Depth.TheVariants.{D16};
 ghost use Rattle.ctr_csrs.specs.declared.mode.Mode.TheVariants.{M};
 ghost use Rattle.guest_modes.specs.Fresh.{fresh_registers};
 ghost use Rattle.indirect_regs.specs.Unit.{fresh_unit};
-ghost use Rattle.rv_hart.specs.Core.{fresh_core};
+ghost use Rattle.rv_hart.specs.Processor.{fresh_core};
 
 use crate::memory::BASE;
 use crate::processor::Core;

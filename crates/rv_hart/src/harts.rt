@@ -1,6 +1,6 @@
 ghost use Rattle.std.specs.Bool.{OnTrue, OnFalse};
 ghost use Rattle.std.specs.Prelude.{◌≡◌, ◌↔◌, ◌<◌, IsTrue, IfOk, Some, length, slice_get};
-ghost use Rattle.rv_hart.specs.State.{fresh_harts};
+ghost use Rattle.rv_hart.specs.Hart.{fresh_harts};
 
 use crate::hart::Hart;
 use ctr_buffer::{CtrStore, RingStore};
@@ -19,7 +19,7 @@ pub struct Harts {
 
 impl Model for Harts {
     ghost use Rattle.std.specs.Prelude.{◌≡◌, List, length};
-    ghost use Rattle.rv_hart.specs.State.{HartState};
+    ghost use Rattle.rv_hart.specs.Hart.{HartState};
 
     ghost Value = { List HartState };
 

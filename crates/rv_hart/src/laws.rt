@@ -4,7 +4,7 @@ ghost use Rattle.rv_hart.specs.StepLaws.{ExceptionsWriteNothing, MemoryKeepsItsS
 ghost use Rattle.guest_modes.specs.Words.{IsWithin};
 ghost use Rattle.indirect_regs.specs.Unit.{IsUnit};
 ghost use Rattle.rv_hart.specs.Task.{Task, Irq, AreInterrupts, causes};
-ghost use Rattle.rv_hart.specs.Lone.{Told, Tells, Agree, told_next, lone, first_state, advanced};
+ghost use Rattle.rv_hart.specs.Lone.{RunState, FollowsHistory, HaveSameState, StepsJoin, RunGoesOn, run_next, lone_run, first_state, after_steps};
 
 /// Laws of one step, of every state, instruction and number of interrupts: a proof and no work.
 pub fn step_laws()
@@ -23,16 +23,20 @@ pub fn lone_run_laws()
     ensures pending { (irqs : List Irq) (n : ℕ) → AreInterrupts irqs → IsWithin 0x2EEE (causes irqs n) }
 
     // The record buffer of a lone run is what its history leaves: the depth, the list, and the pointer, which is counted.
-    ensures tells { (t : Task) (n : ℕ) → Tells (lone t n) }
+    ensures follows { (t : Task) (n : ℕ) → FollowsHistory (lone_run t n) }
 
     // A step of any state whose record buffer is what its history leaves leads to such a state.
-    ensures next_tells { (pending : ℕ) (t : Told) → Tells t → Tells (told_next pending t) }
+    ensures next_follows { (pending : ℕ) (t : RunState) → FollowsHistory t → FollowsHistory (run_next pending t) }
 
     // Two states that agree in the depth, the list, the pointer and all else agree after the same step, and its events
     // are the same.
-    ensures agree { (pending : ℕ) (a b : Told) → Agree a b → Agree (told_next pending a) (told_next pending b) }
-    ensures events { (pending : ℕ) (a b : Told) → Agree a b → events_of pending a.live ≡ events_of pending b.live }
+    ensures agree { (pending : ℕ) (a b : RunState) → HaveSameState a b → HaveSameState (run_next pending a) (run_next pending b) }
+    ensures events { (pending : ℕ) (a b : RunState) → HaveSameState a b → events_of pending a.state ≡ events_of pending b.state }
 
     // The state of a lone run is what as many steps make of the first state.
-    ensures state { (t : Task) (n : ℕ) → (lone t n).live ≡ advanced t 0 n (first_state t) }
+    ensures state { (t : Task) (n : ℕ) → (lone_run t n).state ≡ after_steps t.irqs 0 n (first_state t) }
+
+    // So many steps and then so many more are their sum, of every state and of a lone run.
+    ensures join { StepsJoin }
+    ensures goes_on { RunGoesOn }
 {}

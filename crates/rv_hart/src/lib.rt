@@ -12,7 +12,7 @@ pub use laws::{lone_run_laws, step_laws};
 pub use memory::TaskMem;
 pub use processor::Core;
 
-mod effects;
+mod effect;
 mod freshness;
 mod hart;
 mod harts;
@@ -20,6 +20,7 @@ mod laws;
 mod memory;
 mod outcome;
 mod processor;
+mod step;
 #[cfg(test)]
 mod tests;
 mod transfers;

@@ -1,5 +1,5 @@
 ghost use Rattle.std.specs.Prelude.{◌≡◌, ◌<◌, ◌%◌, replicate};
-ghost use Rattle.rv_hart.specs.Core.{CoreState, fresh_core, plus, reg, put, advanced};
+ghost use Rattle.rv_hart.specs.Processor.{CoreState, fresh_core, plus, reg, put, at_next};
 
 use crate::memory::BASE;
 use ctr_csrs::Mode;
@@ -18,7 +18,7 @@ pub struct Core {
 
 impl Model for Core {
     ghost use Rattle.std.specs.Prelude.{◌≡◌, ◌%◌, length, slice_index};
-    ghost use Rattle.rv_hart.specs.Core.{CoreState};
+    ghost use Rattle.rv_hart.specs.Processor.{CoreState};
 
     ghost Value = { CoreState };
 
@@ -70,7 +70,7 @@ impl Core {
 
     // Goes on at the instruction after this one.
     pub(crate) fn advance(&mut self)
-        ensures { self.new ≡ advanced self.old }
+        ensures { self.new ≡ at_next self.old }
     {
         self.pc = self.after();
     }

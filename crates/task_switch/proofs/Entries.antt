@@ -5,8 +5,7 @@ use Rattle.std.proofs.Math.Numerals.{suc-eq-add-one}
 use Rattle.std.proofs.lemmas.List.{set-set, get_or-set_same, drop_more, take_more, set_at, append_assoc, length-take-le}
 use Rattle.ctr_buffer.specs.declared.slot.Part.{Part}
 use Rattle.ctr_buffer.specs.declared.slot.Part.TheVariants.{Source, Target, Kind}
-use Rattle.ctr_buffer.specs.Entry.{Entry, zero_entry}
-use Rattle.ctr_buffer.specs.History.{with_part}
+use Rattle.ctr_buffer.specs.Entry.{Entry, with_part, zero_entry}
 use Rattle.ctr_buffer.specs.Stack.{Stack, entry_at, poked}
 use Rattle.indirect_regs.specs.Unit.{UnitState}
 use Rattle.indirect_regs.specs.Ports.{written}

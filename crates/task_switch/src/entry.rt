@@ -1,5 +1,5 @@
 ghost use Rattle.std.specs.Prelude.{◌≡◌, ◌<◌, ◌≤◌, ◌+◌, ◌^◌, length};
-ghost use Rattle.ctr_buffer.specs.History.{FitsPart, with_part};
+ghost use Rattle.ctr_buffer.specs.Entry.{FitsPart, with_part};
 ghost use Rattle.ctr_buffer.specs.Stack.{size_of, entry_at, poked};
 ghost use Rattle.indirect_regs.specs.Unit.{IsUnit};
 

@@ -1,6 +1,6 @@
 ghost use Rattle.std.specs.Prelude.{◌≡◌, ◌≤◌, ◌<◌, ◌+◌, ◌*◌, ◌^◌, ◌++◌, ◌∷◌, [], take, length};
 ghost use Rattle.ctr_csrs.specs.Depths.{entries_of};
-ghost use Rattle.ctr_buffer.specs.Live.{live};
+ghost use Rattle.ctr_buffer.specs.Entry.{valid_entries};
 ghost use Rattle.task_switch.specs.Passed.{passed};
 
 use crate::entry::{read_depth, read_entry};
@@ -13,24 +13,24 @@ use indirect_regs::{CtrPort, PortReg};
 /// unit is as before.
 pub fn read_stack<P: CtrPort>(port: &mut P) -> Slots
     requires { P.count port.old ≤ 2 ^ 62 }
-    ensures slots { result ≡ live (P.unit port.old).stack.slots }
+    ensures slots { result ≡ valid_entries (P.unit port.old).stack.slots }
     ensures unit { P.unit port.new ≡ P.unit port.old }
     ensures count { P.count port.new ≡ P.count port.old + (3 + 4 * entries_of (P.unit port.old).stack.depth) }
     ensures rest { P.same_rest port.old port.new }
 {
     let depth = read_depth(port);
     let select = port.get(PortReg::Select);
-    let slots = read_live(port, entries(depth));
+    let slots = read_valid(port, entries(depth));
     port.set(PortReg::Select, select);
     slots
 }
 
 // Reads as many entries from the youngest on, in 4 accesses each, and keeps those that hold a transfer.
-fn read_live<P: CtrPort>(port: &mut P, number: u16) -> Slots
+fn read_valid<P: CtrPort>(port: &mut P, number: u16) -> Slots
     requires room { P.count port.old ≤ 2 ^ 62 + 8 }
     requires all { number ≤ length (P.unit port.old).stack.slots }
     requires small { number ≤ 256 }
-    ensures slots { result ≡ live (take number (P.unit port.old).stack.slots) }
+    ensures slots { result ≡ valid_entries (take number (P.unit port.old).stack.slots) }
     ensures unit { P.unit port.new ≡ passed number (P.unit port.old) }
     ensures count { P.count port.new ≡ P.count port.old + 4 * number }
     ensures rest { P.same_rest port.old port.new }
@@ -45,10 +45,10 @@ fn read_live<P: CtrPort>(port: &mut P, number: u16) -> Slots
 // Adds an entry if it holds a transfer.
 fn keep(slots: &mut Slots, slot: Slot)
     requires { length slots.old < 256 }
-    ensures slots { slots.new ≡ slots.old ++ live (slot ∷ []) }
+    ensures slots { slots.new ≡ slots.old ++ valid_entries (slot ∷ []) }
     ensures most { length slots.new ≤ length slots.old + 1 }
 {
-    if slot.source % 2 == 1 {
+    if slot.is_valid() {
         slots.push(slot);
     }
 }

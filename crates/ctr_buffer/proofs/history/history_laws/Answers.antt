@@ -2,7 +2,7 @@ use Rattle.ctr_csrs.specs.declared.depth.Depth.TheVariants.{D16}
 use Rattle.ctr_buffer.specs.Stack.{empty}
 use Rattle.ctr_buffer.specs.HistoryLaws.{begins, depth_follows, pointer_follows, all_stay, empty_is}
 use Rattle.ctr_buffer.proofs.Counts.{pointer_sum}
-use Rattle.ctr_buffer.proofs.FactLemmas.{buffers_stay}
+use Rattle.ctr_buffer.specs.FactLemmas.{buffers_stay}
 use Rattle.ctr_buffer.proofs.history.history_laws.Goals as goal
 
 pub returns-clause-depth_is_the_last : goal.returns-clause-depth_is_the_last

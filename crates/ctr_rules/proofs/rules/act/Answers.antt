@@ -1,7 +1,7 @@
 use Rattle.std.proofs.Common.{rules, ◌≡◌}
 use Rattle.ctr_rules.specs.Admitted.{admitted, view_of, row_of}
 use Rattle.ctr_rules.specs.FreezeBits.{freezes}
-use Rattle.ctr_rules.proofs.PickedRow.{row_decides, nothing_else, freeze_only, freeze_where, decided_is_even}
+use Rattle.ctr_rules.proofs.PickedRow.{row_decides, nothing_else, freeze_only, freeze_where, decided_is_even, decided_is_own}
 use Rattle.ctr_rules.proofs.rules.act.Goals as goal
 
 pub returns-clause-freeze : goal.returns-clause-freeze
@@ -27,3 +27,9 @@ returns-clause-even c =
     let e : c.recorded.result ≡ admitted c.args.transfer c.args.m c.args.vs c.args.frozen = search rules in
     let t = c.args.transfer in
     rw e (decided_is_even c.args.frozen (freezes t c.args.m c.args.vs) (row_of (view_of t c.args.m c.args.vs)) t)
+
+pub returns-clause-own : goal.returns-clause-own
+returns-clause-own c =
+    let e : c.recorded.result ≡ admitted c.args.transfer c.args.m c.args.vs c.args.frozen = search rules in
+    let t = c.args.transfer in
+    rw e (decided_is_own c.args.frozen (freezes t c.args.m c.args.vs) (row_of (view_of t c.args.m c.args.vs)) t)

@@ -1,4 +1,4 @@
-use Rattle.rv_hart.specs.State.{fresh_hart}
+use Rattle.rv_hart.specs.Hart.{fresh_hart}
 use Rattle.rv_hart.proofs.Zeros.{one_more}
 use Rattle.rv_hart.proofs.harts.are_fresh.Goals as goal
 

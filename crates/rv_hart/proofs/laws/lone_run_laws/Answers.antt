@@ -1,4 +1,4 @@
-use Rattle.rv_hart.proofs.Lones.{lone_tells, next_tells, same_next, same_events, lone_state}
+use Rattle.rv_hart.proofs.Lones.{lone_follows, next_follows, same_next, same_events, lone_state, steps_join, run_goes_on}
 use Rattle.rv_hart.proofs.TaskLemmas.{first_unit, causes_within}
 use Rattle.rv_hart.proofs.laws.lone_run_laws.Goals as goal
 
@@ -8,11 +8,11 @@ returns-clause-first c = first_unit
 pub returns-clause-pending : goal.returns-clause-pending
 returns-clause-pending c = causes_within
 
-pub returns-clause-tells : goal.returns-clause-tells
-returns-clause-tells c = lone_tells
+pub returns-clause-follows : goal.returns-clause-follows
+returns-clause-follows c = lone_follows
 
-pub returns-clause-next_tells : goal.returns-clause-next_tells
-returns-clause-next_tells c = next_tells
+pub returns-clause-next_follows : goal.returns-clause-next_follows
+returns-clause-next_follows c = next_follows
 
 pub returns-clause-agree : goal.returns-clause-agree
 returns-clause-agree c = same_next
@@ -22,3 +22,9 @@ returns-clause-events c = same_events
 
 pub returns-clause-state : goal.returns-clause-state
 returns-clause-state c = lone_state
+
+pub returns-clause-join : goal.returns-clause-join
+returns-clause-join c = steps_join
+
+pub returns-clause-goes_on : goal.returns-clause-goes_on
+returns-clause-goes_on c = run_goes_on

@@ -1,5 +1,5 @@
 use Rattle.std.proofs.Common.{◌≡◌, replicate}
-use Rattle.rv_hart.specs.State.{fresh_hart}
+use Rattle.rv_hart.specs.Hart.{fresh_hart}
 use Rattle.rv_hart.proofs.harts.Harts.new.Given as goal
 
 abbrev pub invariant-loop : goal.invariant-loop

@@ -5,8 +5,8 @@ use Rattle.ctr_csrs.specs.declared.depth.Depth.TheVariants.{D16}
 use Rattle.ctr_buffer.specs.History.{after}
 use Rattle.indirect_regs.specs.Access.{Accessed}
 use Rattle.indirect_regs.specs.Unit.{UnitState, fresh_unit}
-use Rattle.rv_hart.specs.Core.{CoreState, fresh_core}
-use Rattle.rv_hart.specs.Step.{Live, Step}
+use Rattle.rv_hart.specs.Processor.{CoreState, fresh_core}
+use Rattle.rv_hart.specs.Step.{MachineState, Step}
 
 -- the core, the control transfer unit, how many steps it made, how many accesses a monitor made, and the number of the
 -- task that runs on it
@@ -25,8 +25,8 @@ abbrev pub fresh_harts : List HartState
 fresh_harts = replicate 16 fresh_hart
 
 -- a hart and a memory as a step sees them
-abbrev pub live_of : HartState → List ℕ → Live
-live_of h mem = record { core = h.core; unit = h.unit; mem = mem }
+abbrev pub machine_of : HartState → List ℕ → MachineState
+machine_of h mem = record { core = h.core; unit = h.unit; mem = mem }
 
 -- a hart after a step, but for its count
 abbrev pub ran : HartState → Step → HartState
@@ -36,7 +36,7 @@ ran h step = record h { core = step.core; unit = record step.unit { stack = fold
 abbrev pub reached : HartState → Accessed → HartState
 reached h a = record h { core = record h.core { csrs = a.registers }; unit = a.unit }
 
--- what a monitor's door leaves as it is: the core, the steps and the resident
+-- what a monitor's port leaves as it is: the core, the steps and the resident
 pub record SameRest (a b : HartState) : Type 0 where
   pub core : b.core ≡ a.core
   pub steps : b.steps ≡ a.steps

@@ -1,5 +1,5 @@
 -- What a transfer does to the control transfer unit (RISC-V Control Transfer Records 1.0).
-use Rattle.std.specs.Prelude.{◌+◌, Bool, true, List, [], ◌∷◌, fold}
+use Rattle.std.specs.Prelude.{Bool, true, List, [], ◌∷◌, fold}
 use Rattle.xfer_class.specs.Types.{code_of}
 use Rattle.ctr_rules.specs.declared.transfer.Transfer.{Transfer}
 use Rattle.ctr_rules.specs.declared.transfer.Record.{Record}
@@ -8,13 +8,13 @@ use Rattle.ctr_rules.specs.declared.transfer.Act.TheVariants as acts
 use Rattle.ctr_rules.specs.Admitted.{admitted}
 use Rattle.ctr_buffer.specs.declared.event.Event.{Event}
 use Rattle.ctr_buffer.specs.declared.event.Event.TheVariants.{Push, Swap, Pop}
-use Rattle.ctr_buffer.specs.Entry.{Entry}
+use Rattle.ctr_buffer.specs.Entry.{Entry, recorded_entry}
 use Rattle.ctr_buffer.specs.History.{after}
 use Rattle.indirect_regs.specs.Unit.{UnitState}
 
--- a record as an entry: the source with the valid bit V
+-- a record as an entry
 abbrev pub entry_of : Record → Entry
-entry_of r = record { source = r.source + 1; target = r.target; kind = code_of r.kind }
+entry_of r = recorded_entry r.source r.target r.misp (code_of r.kind)
 
 -- the events of the record buffer that an act is
 abbrev pub events_by : Act → List Event

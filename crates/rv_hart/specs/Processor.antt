@@ -29,5 +29,5 @@ abbrev pub put : CoreState → ℕ → ℕ → CoreState
 put c r value = record c { x = cond (nat_eq r 0) c.x (slice_set c.x r value) }
 
 -- at the next instruction
-abbrev pub advanced : CoreState → CoreState
-advanced c = record c { pc = plus c.pc 4 }
+abbrev pub at_next : CoreState → CoreState
+at_next c = record c { pc = plus c.pc 4 }

@@ -1,17 +1,18 @@
 // What instructions do to the registers and to memory, and how they go on.
 ghost use Rattle.std.specs.Prelude.{◌≡◌, ℕ, ◌<◌, ◌≤◌, ◌%◌, List, None, length};
+ghost use Rattle.std.specs.Option.{IfSome};
 ghost use Rattle.rv_decode.specs.Rows.{NumbersFit};
-ghost use Rattle.rv_hart.specs.Core.{plus, put};
-ghost use Rattle.rv_hart.specs.Effect.{effect, jumps, branches, loads, stores, IsSound, call_cause, machine_return, supervisor_return};
+ghost use Rattle.rv_hart.specs.Processor.{plus, put};
+ghost use Rattle.rv_hart.specs.Effect.{effect, jumps, branches, jump_of, loads, stores, IsJump, IsSound, call_cause, machine_return, supervisor_return};
 
 use crate::memory::{TaskMem, count};
-use crate::outcome::Outcome;
+use crate::outcome::{Jump, Outcome};
 use crate::processor::Core;
 use ctr_csrs::Mode;
 use guest_modes::Ret;
 use rv_alu::{apply, taken};
 use rv_decode::{Instr, Width};
-use xfer_class::{XferType, class_of};
+use xfer_class::{class_of, missed};
 
 // The next instruction comes.
 fn next(core: &Core) -> Outcome
@@ -32,10 +33,26 @@ fn give(core: &mut Core, rd: u8, value: u64) -> Outcome
     next(core)
 }
 
+// The jump or branch that an instruction is.
+#[inline(always)]
+fn jump_of(instr: Instr, taken: bool) -> Option<Jump>
+    ensures jump { result ≡ jump_of instr taken }
+    ensures sound { IfSome result IsJump }
+{
+    match class_of(instr, taken) {
+        Some(kind) => Some(Jump {
+            kind,
+            misp: missed(instr, taken),
+        }),
+        None => None,
+    }
+}
+
 // Jumps to a target, with the address after the jump in rd.
-fn jump(core: &mut Core, kind: Option<XferType>, rd: u8, target: u64) -> Outcome
-    requires { rd < 32 }
-    ensures effect { (bytes : List ℕ) → record { core = core.new; bytes = bytes; outcome = result } ≡ jumps kind rd target core.old bytes }
+fn jump(core: &mut Core, jump: Option<Jump>, rd: u8, target: u64) -> Outcome
+    requires rd { rd < 32 }
+    requires jump { IfSome jump IsJump }
+    ensures effect { (bytes : List ℕ) → record { core = core.new; bytes = bytes; outcome = result } ≡ jumps jump rd target core.old bytes }
     ensures sound { IsSound result }
 {
     if target % 4 != 0 {
@@ -43,21 +60,22 @@ fn jump(core: &mut Core, kind: Option<XferType>, rd: u8, target: u64) -> Outcome
     }
     let link = core.after();
     core.put(rd, link);
-    Outcome::Goes(kind, target)
+    Outcome::Goes(jump, target)
 }
 
 // Branches, or not.
-fn branch(core: &Core, taken: bool, kind: Option<XferType>, target: u64) -> Outcome
-    ensures effect { (bytes : List ℕ) → record { core = core.now; bytes = bytes; outcome = result } ≡ branches taken kind target core.now bytes }
+fn branch(core: &Core, taken: bool, jump: Option<Jump>, target: u64) -> Outcome
+    requires { IfSome jump IsJump }
+    ensures effect { (bytes : List ℕ) → record { core = core.now; bytes = bytes; outcome = result } ≡ branches taken jump target core.now bytes }
     ensures sound { IsSound result }
 {
     if !taken {
-        return Outcome::Goes(kind, core.after());
+        return Outcome::Goes(jump, core.after());
     }
     if target % 4 != 0 {
         return Outcome::Raises(0, target);
     }
-    Outcome::Goes(kind, target)
+    Outcome::Goes(jump, target)
 }
 
 fn load(core: &mut Core, mem: &TaskMem, width: Width, signed: bool, rd: u8, address: u64) -> Outcome
@@ -146,11 +164,11 @@ pub(crate) fn execute(core: &mut Core, mem: &mut TaskMem, instr: Instr, word: u3
         }
         Instr::Jal { rd, off } => {
             let target = core.pc.wrapping_add(off);
-            jump(core, class_of(instr, false), rd, target)
+            jump(core, jump_of(instr, false), rd, target)
         }
         Instr::Jalr { rd, rs1, off } => {
             let sum = core.reg(rs1).wrapping_add(off);
-            jump(core, class_of(instr, false), rd, sum / 2 * 2)
+            jump(core, jump_of(instr, false), rd, sum / 2 * 2)
         }
         Instr::Branch {
             cond,
@@ -160,7 +178,7 @@ pub(crate) fn execute(core: &mut Core, mem: &mut TaskMem, instr: Instr, word: u3
         } => {
             let taken = taken(cond, core.reg(rs1), core.reg(rs2));
             let target = core.pc.wrapping_add(off);
-            branch(core, taken, class_of(instr, taken), target)
+            branch(core, taken, jump_of(instr, taken), target)
         }
         Instr::Load {
             width,
