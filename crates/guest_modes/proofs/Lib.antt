@@ -1,4 +1,3 @@
-mod WordLemmas
 mod NumberLemmas
 mod PickLemmas
 mod QuietLemmas

@@ -1,12 +1,12 @@
 -- Where no interrupt is pending and enabled, none is taken.
-use Rattle.std.proofs.Common.{ℕ, ◌≡◌, ◌/◌, ◌%◌, ◌^◌, Bool, true, false, ◌&&◌, nat_eq, bit_and, min, Option, None, List, [], ◌∷◌, inl, inr, refl, sym, ◌∙◌, ap, arith}
-use Rattle.std.proofs.lemmas.Bool.{cases_Bool, eqb-true, cond-false}
+use Rattle.std.proofs.Common.{ℕ, ◌≡◌, ◌/◌, ◌%◌, ◌^◌, true, false, ◌&&◌, bit_and, min, None, List, [], ◌∷◌, inl, inr, refl, sym, ◌∙◌, ap, arith}
+use Rattle.std.proofs.lemmas.Bool.{cases_Bool, eqb-true}
 use Rattle.std.proofs.lemmas.Nat.Bits.{bit_at_and, bit_at-zero}
 use Rattle.std.specs.Int.{bit_at}
 use Rattle.ctr_csrs.specs.declared.mode.Mode.{Mode}
 use Rattle.ctr_csrs.specs.declared.mode.Mode.TheVariants.{M, S, Vs}
 use Rattle.guest_modes.specs.declared.registers.Priv.{Priv}
-use Rattle.guest_modes.specs.Interrupts.{allows, is_candidate, first_of, first_for, or_else, picked}
+use Rattle.guest_modes.specs.Interrupts.{is_candidate, first_of, picked}
 use Rattle.guest_modes.specs.Traps.{interrupt_taker, is_same, interrupt_order}
 use Rattle.guest_modes.specs.Words.{is_on}
 

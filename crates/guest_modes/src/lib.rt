@@ -5,6 +5,7 @@
 #![tactic(auto)]
 
 pub use entering::enter_trap;
+pub use facts::{fact_laws, priv_facts};
 pub use gating::{CsrFault, gate};
 pub use interrupts::pick_interrupt;
 pub use laws::privilege_laws;
@@ -14,6 +15,7 @@ pub use returning::{Ret, leave_trap};
 pub use targets::{Trap, trap_target};
 
 mod entering;
+mod facts;
 mod gating;
 mod interrupts;
 mod laws;

@@ -10,7 +10,7 @@ mod products;
 mod words;
 
 pub use conditions::taken;
-pub use laws::value_laws;
+pub use laws::{division_laws, product_laws, size_laws};
 pub use operations::apply;
 
 #[cfg(test)]

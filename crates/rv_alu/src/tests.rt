@@ -1,5 +1,5 @@
 // The values are those that bench/alu_edges.py prints: it computes them on whole numbers.
-use crate::{apply, taken, value_laws};
+use crate::{apply, division_laws, product_laws, size_laws, taken};
 use rv_decode::{AluOp, Cond};
 
 const ONES: u64 = 0xFFFF_FFFF_FFFF_FFFF;
@@ -296,6 +296,25 @@ fn divisions_round_toward_zero_and_refuse_nothing(rt: HostRuntime) {
     }
 }
 
+// Unprivileged ISA, extension M: the answers by zero and of the quotient that doesn't fit, and upper halves.
+#[test]
+fn the_answers_that_the_manual_lists_apart(rt: HostRuntime) {
+    for (op, a, b, want) in [
+        (AluOp::Div, 7, 0, ONES),
+        (AluOp::Rem, 7, 0, 7),
+        (AluOp::Div, LEAST, ONES, LEAST),
+        (AluOp::Rem, LEAST, ONES, 0),
+        (AluOp::Divw, BIT_31, ONES, LEAST_32),
+        (AluOp::Remw, BIT_31, ONES, 0),
+        (AluOp::Divuw, BIT_31, 0, ONES), // all ones of 32 bits, sign-extended
+        (AluOp::Mulhu, ONES, ONES, 0xFFFF_FFFF_FFFF_FFFE),
+        (AluOp::Mulh, ONES, ONES, 0), // -1 times -1
+        (AluOp::Mulhsu, ONES, ONES, ONES), // -1 times 2^64 - 1
+    ] {
+        assert_eq!(rt; apply(op, a, b), want, "{op:?} {a:x} {b:x}");
+    }
+}
+
 #[test]
 fn divisions_of_32_bits_sign_extend_their_result(rt: HostRuntime) {
     for (op, a, b, want) in [
@@ -376,5 +395,7 @@ fn branches_compare_signed_and_unsigned(rt: HostRuntime) {
 
 #[test]
 fn the_laws_do_no_work(rt: HostRuntime) {
-    value_laws();
+    product_laws();
+    division_laws();
+    size_laws();
 }

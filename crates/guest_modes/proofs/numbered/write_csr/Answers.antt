@@ -1,5 +1,5 @@
 use Rattle.std.proofs.Common.{refl, arith}
-use Rattle.guest_modes.proofs.WordLemmas.{under_part, shown_within}
+use Rattle.guest_modes.specs.WordLemmas.{under_part, shown_within}
 use Rattle.guest_modes.proofs.numbered.write_csr.Goals as goal
 
 pub merge-p-requires-in-260 : goal.merge-p-requires-in-260

@@ -1,5 +1,5 @@
 use Rattle.std.proofs.Common.{◌-◌, ◌*◌, ◌%◌, ◌^◌}
-use Rattle.guest_modes.proofs.WordLemmas.{part_within}
+use Rattle.guest_modes.specs.WordLemmas.{part_within}
 use Rattle.guest_modes.proofs.masked.Masked.clear.Goals as goal
 
 pub invariant_of-result : goal.invariant_of-result

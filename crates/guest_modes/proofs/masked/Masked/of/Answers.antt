@@ -1,5 +1,5 @@
 use Rattle.std.specs.Int.Bits.{and_self}
-use Rattle.guest_modes.proofs.WordLemmas.{under_part}
+use Rattle.guest_modes.specs.WordLemmas.{under_part}
 use Rattle.guest_modes.proofs.masked.Masked.of.Goals as goal
 
 pub invariant_of-result : goal.invariant_of-result

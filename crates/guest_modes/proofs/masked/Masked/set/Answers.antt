@@ -1,4 +1,4 @@
-use Rattle.guest_modes.proofs.WordLemmas.{or_within}
+use Rattle.guest_modes.specs.WordLemmas.{or_within}
 use Rattle.guest_modes.proofs.masked.Masked.set.Goals as goal
 
 pub invariant_of-result : goal.invariant_of-result

@@ -1,4 +1,4 @@
-use Rattle.guest_modes.proofs.WordLemmas.{status_with_mpp}
+use Rattle.guest_modes.specs.WordLemmas.{status_with_mpp}
 use Rattle.guest_modes.proofs.mstatus.Mstatus.put_mpp.Goals as goal
 
 pub invariant_of-result : goal.invariant_of-result

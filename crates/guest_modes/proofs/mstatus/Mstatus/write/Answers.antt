@@ -1,5 +1,5 @@
 use Rattle.std.proofs.Common.{refl, ◌∙◌}
-use Rattle.guest_modes.proofs.WordLemmas.{status_rewritten, under_part}
+use Rattle.guest_modes.specs.WordLemmas.{status_rewritten, under_part}
 use Rattle.guest_modes.proofs.mstatus.Mstatus.write.Goals as goal
 
 pub invariant_of-t-7 : goal.invariant_of-t-7

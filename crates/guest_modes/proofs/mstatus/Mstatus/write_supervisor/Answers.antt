@@ -1,4 +1,4 @@
-use Rattle.guest_modes.proofs.WordLemmas.{status_in_part}
+use Rattle.guest_modes.specs.WordLemmas.{status_in_part}
 use Rattle.guest_modes.proofs.mstatus.Mstatus.write_supervisor.Goals as goal
 
 pub invariant_of-result : goal.invariant_of-result

@@ -1,0 +1,2 @@
+mod ProductLemmas
+mod DivisionLemmas
