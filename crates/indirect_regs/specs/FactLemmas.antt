@@ -28,15 +28,15 @@ use Rattle.guest_modes.specs.declared.registers.Priv.{Priv}
 use Rattle.guest_modes.specs.Gate.{gated}
 use Rattle.guest_modes.specs.Numbers.{is_register}
 use Rattle.guest_modes.specs.Facts.{IsPriv, keeps}
-use Rattle.guest_modes.specs.FactLemmas.{written_keeps, read_fits, small_within, is, set}
+use Rattle.guest_modes.specs.RowFacts.{written_keeps, read_fits, small_within, is, set}
 use Rattle.indirect_regs.specs.declared.accessing.CsrUse.{CsrUse}
 use Rattle.indirect_regs.specs.declared.accessing.CsrUse.TheVariants.{Read, Write, Set, Clear}
 use Rattle.indirect_regs.specs.declared.port.PortReg.{PortReg}
 use Rattle.indirect_regs.specs.declared.port.PortReg.TheVariants.{Mctrctl, Vsctrctl, Depth as Depths, Status, Select, From, To, Kind}
-use Rattle.indirect_regs.specs.Unit.{UnitState, IsUnit, after_any, CanTakeAny}
+use Rattle.indirect_regs.specs.Unit.{UnitState, HasControls, IsUnit, after_any, CanTakeAny}
 use Rattle.indirect_regs.specs.Ports.{read, part_kept, entry_named, number_named, names_entry, depth_written, part_written, event_of, changed, written}
 use Rattle.indirect_regs.specs.Table.{Row, direct, by_siselect, by_vsiselect, part_read, unused_read, indirect, unused, sctrctl, guest_select, kept, no_register, transfer_rows, row_in, row_of}
-use Rattle.indirect_regs.specs.Facts.{HasControls, IsWholeUnit, UseFits, AnswerFits, IsAccessed}
+use Rattle.indirect_regs.specs.Facts.{IsWholeUnit, UseFits, AnswerFits, IsAccessed}
 use Rattle.indirect_regs.specs.Access.{Accessed, is_write, new_value, unchanged, put_in, used, passed, accessed}
 
 pub unit_of : (u : UnitState) → IsWholeUnit u → IsUnit u
@@ -142,7 +142,8 @@ event_can Vsctrctl u v p = tt
 event_can Depths u v p = depth_can u.stack (depth_at (v % 8))
 event_can Status u v p =
     let pointer = pointer_in v u.stack.depth in
-    cond_both (nat_eq pointer u.stack.pointer) None (Some (Turn pointer)) (CanTakeAny u.stack) (λ e. tt) (λ e. turn_can v u.stack.depth)
+    cond_both (nat_eq pointer u.stack.pointer) None (Some (Turn pointer)) (CanTakeAny u.stack) (λ e. tt)
+    (λ e. (turn_can v u.stack.depth, eqb-false pointer u.stack.pointer e))
 event_can Select u v p = tt
 event_can From u v p = part_can u.stack u.select parts.Source v p
 event_can To u v p = part_can u.stack u.select parts.Target v p

@@ -3,3 +3,4 @@ mod Lones
 mod Zeros
 mod StepLemmas
 mod TaskLemmas
+mod FactLemmas

@@ -7,3 +7,4 @@ pub mod Hart
 pub mod Task
 pub mod Lone
 pub mod StepLaws
+pub mod Facts

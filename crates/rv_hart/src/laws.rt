@@ -1,10 +1,15 @@
-ghost use Rattle.std.specs.Prelude.{◌≡◌, ℕ, List};
+ghost use Rattle.std.specs.Prelude.{◌≡◌, ℕ, ◌^◌, ◌<◌, ◌%◌, List, length, slice_index};
+ghost use Rattle.std.specs.List.{All};
 ghost use Rattle.rv_hart.specs.Step.{next, events_of};
+ghost use Rattle.rv_hart.specs.Facts.{IsCore, NextKeeps, StepsKeep, LoneRunKeeps, HistoryKeeps, HistoryReplays};
 ghost use Rattle.rv_hart.specs.StepLaws.{ExceptionsWriteNothing, MemoryKeepsItsSize, NoStepChangesX0, AtMostOneEvent};
 ghost use Rattle.guest_modes.specs.Words.{IsWithin};
 ghost use Rattle.indirect_regs.specs.Unit.{IsUnit};
 ghost use Rattle.rv_hart.specs.Task.{Task, Irq, AreInterrupts, causes};
 ghost use Rattle.rv_hart.specs.Lone.{RunState, FollowsHistory, HaveSameState, StepsJoin, RunGoesOn, run_next, lone_run, first_state, after_steps};
+
+use crate::processor::Core;
+use guest_modes::priv_facts;
 
 /// Laws of one step, of every state, instruction and number of interrupts: a proof and no work.
 pub fn step_laws()
@@ -40,3 +45,45 @@ pub fn lone_run_laws()
     ensures join { StepsJoin }
     ensures goes_on { RunGoesOn }
 {}
+
+/// What steps keep of the facts of a state, and what the history of a lone run holds: a proof and no work.
+pub fn fact_laws()
+    ensures next { NextKeeps }
+    ensures steps { StepsKeep }
+    ensures run { LoneRunKeeps }
+
+    // Each recorded transfer has V.
+    ensures history { HistoryKeeps }
+    ensures replays { HistoryReplays }
+{
+    rv_decode::word_laws();
+}
+
+/// The facts of a core, from its types: a proof and no work.
+pub fn core_facts(core: &Core)
+    ensures { IsCore core.now }
+{
+    core_words(core);
+    core_place(core);
+    priv_facts(&core.csrs);
+}
+
+fn core_words(core: &Core)
+    ensures { All (λ n. n < 2 ^ 64) core.now.x }
+{
+    let words: &[u64] = &core.x;
+    register_words(words);
+}
+
+fn register_words(words: &[u64])
+    ensures { All (λ n. n < 2 ^ 64) words.now }
+{}
+
+fn core_place(core: &Core)
+    ensures fits { core.now.pc < 2 ^ 64 }
+    ensures aligned { core.now.pc % 4 ≡ 0 }
+    ensures full { length core.now.x ≡ 32 }
+    ensures zero { slice_index core.now.x 0 ≡ 0 }
+{
+    let _pc = core.pc;
+}

@@ -8,7 +8,7 @@
 
 pub use hart::Hart;
 pub use harts::{Harts, Store};
-pub use laws::{lone_run_laws, step_laws};
+pub use laws::{core_facts, fact_laws, lone_run_laws, step_laws};
 pub use memory::TaskMem;
 pub use processor::Core;
 
