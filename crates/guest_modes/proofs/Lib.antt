@@ -2,3 +2,5 @@ mod NumberLemmas
 mod PickLemmas
 mod QuietLemmas
 mod ViewLemmas
+mod StatusLemmas
+mod InterruptLemmas

@@ -1,5 +1,5 @@
 -- What a reader must believe: Words, Registers, Fresh, Numbers, Gate, Traps, Entry, Returns and Interrupts, and the
--- statements of Views and Facts. WordLemmas, RowFacts and FactLemmas have proofs that the crates above cite.
+-- statements of Views, StatusLaws, InterruptLaws and Facts. WordLemmas, RowFacts and FactLemmas have proofs that the crates above cite.
 pub mod Words
 pub mod Fresh
 pub mod Registers
@@ -10,6 +10,8 @@ pub mod Entry
 pub mod Returns
 pub mod Interrupts
 pub mod Views
+pub mod StatusLaws
+pub mod InterruptLaws
 pub mod Facts
 pub mod WordLemmas
 pub mod RowFacts

@@ -4,6 +4,7 @@ use Rattle.std.specs.Prelude.{ℕ, ◌+◌, ◌^◌, Bool, true, false, ◌||◌
 use Rattle.ctr_csrs.specs.declared.mode.Mode.{Mode}
 use Rattle.ctr_csrs.specs.declared.mode.Mode.TheVariants.{M, S, U, Vs, Vu}
 use Rattle.ctr_csrs.specs.TrapEnables.{is_pair}
+use Rattle.guest_modes.specs.declared.causes.TheConstants.{LOCAL_COUNTER_OVERFLOW, VIRTUAL_INSTRUCTION}
 use Rattle.guest_modes.specs.declared.registers.Priv.{Priv}
 use Rattle.guest_modes.specs.declared.targets.Trap.{Trap}
 use Rattle.guest_modes.specs.declared.targets.Trap.TheVariants.{Exception, Interrupt}
@@ -13,11 +14,11 @@ use Rattle.guest_modes.specs.Words.{is_on}
 
 -- the interrupts, from the one that is taken first to the one that is taken last where one mode takes them
 abbrev pub interrupt_order : List ℕ
-interrupt_order = 11 ∷ 3 ∷ 7 ∷ 9 ∷ 1 ∷ 5 ∷ 10 ∷ 2 ∷ 6 ∷ 13 ∷ []
+interrupt_order = 11 ∷ 3 ∷ 7 ∷ 9 ∷ 1 ∷ 5 ∷ 10 ∷ 2 ∷ 6 ∷ LOCAL_COUNTER_OVERFLOW ∷ []
 
 -- the exceptions 0 to 11 and 22, and the interrupts
 abbrev pub is_cause : Trap → Bool
-is_cause (Exception c) = nat_lt c 12 || nat_eq c 22
+is_cause (Exception c) = nat_lt c 12 || nat_eq c VIRTUAL_INSTRUCTION
 is_cause (Interrupt i) = is_in i interrupt_order
 
 -- an exception that M delegates is taken by S, or by VS where it comes from a guest and the hypervisor delegates it too;
