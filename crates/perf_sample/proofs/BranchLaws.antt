@@ -5,7 +5,7 @@ use Rattle.std.proofs.lemmas.List.Elements.{All-head, All-tail}
 use Rattle.std.specs.List.{flat_map}
 use Rattle.std.specs.Io.KnownBytes.{Consumes}
 use Rattle.perf_sample.specs.declared.sample.Branch.{Branch}
-use Rattle.perf_sample.specs.Layout.{fixed_len, FlagsFit}
+use Rattle.perf_sample.specs.Layout.{LayoutWords, fixed_len, FlagsFit}
 use Rattle.ctr_port.specs.InHand.{Of}
 use Rattle.ctr_port.proofs.Laws.{taken_then}
 use Rattle.perf_sample.specs.Spelling.{le, branch_bytes}
@@ -18,38 +18,38 @@ use Rattle.perf_sample.proofs.BreakLaws.{cut_first, passes, stops, early, length
 use Rattle.perf_sample.proofs.ReadingLaws.{stopped_after, stopped_as, of_taken}
 
 pub from_stops : (a b : Option (List ℕ)) (i : ℕ) (f : SampleFault) → Stopped (cut_at (At (place.From i))) a b f
-    → (layout size : ℕ) → Stopped (first_of layout size (branch_fields i 1)) a b f
+    → (layout : LayoutWords) (size : ℕ) → Stopped (first_of layout size (branch_fields i 1)) a b f
 unfolding branch_fields
 from_stops a b i f h layout size =
     stopped_as a b (cut_at (At (place.From i))) (first_of layout size (branch_fields i 1)) f
     (λ z r e. cut_first layout size (At (place.From i)) (At (place.To i) ∷ At (place.Flags i) ∷ []) z r e) h
 
 -- what follows from of a branch
-behind_from : (layout size i from : ℕ) (z : List ℕ) → first_of layout size (branch_fields i 1) (le 8 from ++ z) ≡ first_of layout size (At (place.To i) ∷ At (place.Flags i) ∷ []) z
+behind_from : (layout : LayoutWords) (size i from : ℕ) (z : List ℕ) → first_of layout size (branch_fields i 1) (le 8 from ++ z) ≡ first_of layout size (At (place.To i) ∷ At (place.Flags i) ∷ []) z
 unfolding branch_fields
 behind_from layout size i from z = passes layout size (At (place.From i)) (At (place.To i) ∷ At (place.Flags i) ∷ []) (le 8 from) z (length_le 8 from) refl
 
-behind_to : (layout size i from to : ℕ) (z : List ℕ) → first_of layout size (branch_fields i 1) ((le 8 from ++ le 8 to) ++ z) ≡ first_of layout size (At (place.Flags i) ∷ []) z
+behind_to : (layout : LayoutWords) (size i from to : ℕ) (z : List ℕ) → first_of layout size (branch_fields i 1) ((le 8 from ++ le 8 to) ++ z) ≡ first_of layout size (At (place.Flags i) ∷ []) z
 behind_to layout size i from to z =
     ap (first_of layout size (branch_fields i 1)) (append_assoc (le 8 from) (le 8 to) z)
     ∙ behind_from layout size i from (le 8 to ++ z)
     ∙ passes layout size (At (place.To i)) (At (place.Flags i) ∷ []) (le 8 to) z (length_le 8 to) refl
 
 pub to_stops : (a b c : Option (List ℕ)) (i from : ℕ) (f : SampleFault) → Consumes a b (le 8 from) → Stopped (cut_at (At (place.To i))) b c f
-    → (layout size : ℕ) → Stopped (first_of layout size (branch_fields i 1)) a c f
+    → (layout : LayoutWords) (size : ℕ) → Stopped (first_of layout size (branch_fields i 1)) a c f
 to_stops a b c i from f took h layout size =
     stopped_after a b c (le 8 from) (cut_at (At (place.To i))) (first_of layout size (branch_fields i 1)) f took
     (λ z r e. behind_from layout size i from z ∙ cut_first layout size (At (place.To i)) (At (place.Flags i) ∷ []) z r e) h
 
 pub flags_stop : (a b c d : Option (List ℕ)) (i from to : ℕ) (f : SampleFault) → Consumes a b (le 8 from) → Consumes b c (le 8 to) → Stopped (cut_at (At (place.Flags i))) c d f
-    → (layout size : ℕ) → Stopped (first_of layout size (branch_fields i 1)) a d f
+    → (layout : LayoutWords) (size : ℕ) → Stopped (first_of layout size (branch_fields i 1)) a d f
 flags_stop a b c d i from to f first then h layout size =
     stopped_after a c d (le 8 from ++ le 8 to) (cut_at (At (place.Flags i))) (first_of layout size (branch_fields i 1)) f (taken_then a b c (le 8 from) (le 8 to) first then)
     (λ z r e. behind_to layout size i from to z ∙ cut_first layout size (At (place.Flags i)) [] z r e) h
 
 -- a reserved flag
 pub flags_wrong : (a b c d : Option (List ℕ)) (i from to flags : ℕ) → Consumes a b (le 8 from) → Consumes b c (le 8 to) → Consumes c d (le 8 flags) → flags < 2 ^ 64 → 2 ^ 33 ≤ flags
-    → (layout size : ℕ) → Of a d (λ t t'. first_of layout size (branch_fields i 1) t ≡ Some (fault.FlagReserved i, t'))
+    → (layout : LayoutWords) (size : ℕ) → Of a d (λ t t'. first_of layout size (branch_fields i 1) t ≡ Some (fault.FlagReserved i, t'))
 flags_wrong a b c d i from to flags first then last small large layout size =
     of_taken a d ((le 8 from ++ le 8 to) ++ le 8 flags) (λ t t'. first_of layout size (branch_fields i 1) t ≡ Some (fault.FlagReserved i, t'))
     (taken_then a c d (le 8 from ++ le 8 to) (le 8 flags) (taken_then a b c (le 8 from) (le 8 to) first then) last)
@@ -60,7 +60,7 @@ flags_wrong a b c d i from to flags first then last small large layout size =
     ∙ stops layout size (At (place.Flags i)) [] (le 8 flags) z (fault.FlagReserved i) (length_le 8 flags) (rw wrong refl))
 
 -- one whole branch is passed over
-branch_passes : (layout size i n : ℕ) (b : Branch) (z : List ℕ) → b.flags < 2 ^ 33 → first_of layout size (branch_fields i (suc n)) (branch_bytes b ++ z) ≡ first_of layout size (branch_fields (suc i) n) z
+branch_passes : (layout : LayoutWords) (size i n : ℕ) (b : Branch) (z : List ℕ) → b.flags < 2 ^ 33 → first_of layout size (branch_fields i (suc n)) (branch_bytes b ++ z) ≡ first_of layout size (branch_fields (suc i) n) z
 unfolding branch_fields
 branch_passes layout size i n b z right =
     let others = branch_fields (suc i) n in
@@ -71,7 +71,7 @@ branch_passes layout size i n b z right =
     ∙ passes layout size (At (place.Flags i)) others (le 8 b.flags) z (length_le 8 b.flags) (rw seen refl)
 
 -- whole branches are passed over
-pub branches_pass : (layout size i n : ℕ) (bs : List Branch) (z : List ℕ) → FlagsFit bs
+pub branches_pass : (layout : LayoutWords) (size i n : ℕ) (bs : List Branch) (z : List ℕ) → FlagsFit bs
     → first_of layout size (branch_fields i (length bs + n)) (flat_map branch_bytes bs ++ z) ≡ first_of layout size (branch_fields (i + length bs) n) z
 branches_pass layout size i n [] z fit =
     let none : 0 + n ≡ n = omega arith in
@@ -87,13 +87,13 @@ branches_pass layout size i n (b ∷ bs) z fit =
     ∙ ap (λ (k : ℕ). first_of layout size (branch_fields k n) z) next
 
 -- what breaks in a branch breaks in it and those after it
-branch_early : (layout size i n : ℕ) (z : List ℕ) (r : SampleFault × List ℕ) → first_of layout size (branch_fields i 1) z ≡ Some r → first_of layout size (branch_fields i (suc n)) z ≡ Some r
+branch_early : (layout : LayoutWords) (size i n : ℕ) (z : List ℕ) (r : SampleFault × List ℕ) → first_of layout size (branch_fields i 1) z ≡ Some r → first_of layout size (branch_fields i (suc n)) z ≡ Some r
 unfolding branch_fields
 branch_early layout size i n z r e = early layout size (At (place.From i) ∷ At (place.To i) ∷ At (place.Flags i) ∷ []) (branch_fields (suc i) n) z r e
 
 -- reading stopped in a branch that follows others
 pub branches_stop : (a b c : Option (List ℕ)) (nr i : ℕ) (bs : List Branch) (f : SampleFault) → i < nr → length bs ≡ i → FlagsFit bs → Consumes a b (flat_map branch_bytes bs)
-    → ((layout size : ℕ) → Stopped (first_of layout size (branch_fields i 1)) b c f) → (layout size : ℕ) → Stopped (first_of layout size (branch_fields 0 nr)) a c f
+    → ((layout : LayoutWords) (size : ℕ) → Stopped (first_of layout size (branch_fields i 1)) b c f) → (layout : LayoutWords) (size : ℕ) → Stopped (first_of layout size (branch_fields 0 nr)) a c f
 branches_stop a b c nr i bs f within len fit took h layout size =
     let n = nr - (i + 1) in
     let count : length bs + suc n ≡ nr = omega (arith, len, within) in
@@ -107,18 +107,18 @@ branches_stop a b c nr i bs f within len fit took h layout size =
     (h layout size)
 
 -- the number of branches is wrong
-nr_stops : (layout size nr : ℕ) (a b : Option (List ℕ)) (f : SampleFault) → nr < 2 ^ 64 → unless (nat_le nr 256) fault.Count (unless (nat_eq size (fixed_len layout + 24 * nr)) fault.Size None) ≡ Some f
+nr_stops : (layout : LayoutWords) (size nr : ℕ) (a b : Option (List ℕ)) (f : SampleFault) → nr < 2 ^ 64 → unless (nat_le nr 256) fault.Count (unless (nat_eq size (fixed_len layout + 24 * nr)) fault.Size None) ≡ Some f
     → Consumes a b (le 8 nr) → Of a b (λ t t'. first_of layout size (At place.Nr ∷ []) t ≡ Some (f, t'))
 nr_stops layout size nr a b f small wrong took =
     of_taken a b (le 8 nr) (λ t t'. first_of layout size (At place.Nr ∷ []) t ≡ Some (f, t')) took
     (λ z. stops layout size (At place.Nr) [] (le 8 nr) z f (length_le 8 nr) (rw (number_read 8 nr z small) wrong))
 
-pub count_wrong : (layout size nr : ℕ) (a b : Option (List ℕ)) → nr < 2 ^ 64 → 256 < nr → Consumes a b (le 8 nr) → Of a b (λ t t'. first_of layout size (At place.Nr ∷ []) t ≡ Some (fault.Count, t'))
+pub count_wrong : (layout : LayoutWords) (size nr : ℕ) (a b : Option (List ℕ)) → nr < 2 ^ 64 → 256 < nr → Consumes a b (le 8 nr) → Of a b (λ t t'. first_of layout size (At place.Nr ∷ []) t ≡ Some (fault.Count, t'))
 count_wrong layout size nr a b small many took = nr_stops layout size nr a b fault.Count small (rw (lt-leb nr 256 many) refl) took
 
-pub nr_wrong : (layout size nr : ℕ) (a b : Option (List ℕ)) → nr < 2 ^ 64 → nr ≤ 256 → (size ≡ fixed_len layout + 24 * nr → ⊥) → Consumes a b (le 8 nr)
+pub nr_wrong : (layout : LayoutWords) (size nr : ℕ) (a b : Option (List ℕ)) → nr < 2 ^ 64 → nr ≤ 256 → (size ≡ fixed_len layout + 24 * nr → ⊥) → Consumes a b (le 8 nr)
     → Of a b (λ t t'. first_of layout size (At place.Nr ∷ []) t ≡ Some (fault.Size, t'))
 nr_wrong layout size nr a b small few wrong took = nr_stops layout size nr a b fault.Size small (rw (le-leb nr 256 few, ne_eqb size (fixed_len layout + 24 * nr) wrong) refl) took
 
-pub nr_cut : (layout size : ℕ) (a b : Option (List ℕ)) (f : SampleFault) → Stopped (cut_at (At place.Nr)) a b f → Stopped (first_of layout size (At place.Nr ∷ [])) a b f
+pub nr_cut : (layout : LayoutWords) (size : ℕ) (a b : Option (List ℕ)) (f : SampleFault) → Stopped (cut_at (At place.Nr)) a b f → Stopped (first_of layout size (At place.Nr ∷ [])) a b f
 nr_cut layout size a b f h = stopped_as a b (cut_at (At place.Nr)) (first_of layout size (At place.Nr ∷ [])) f (λ z r e. cut_first layout size (At place.Nr) [] z r e) h

@@ -7,6 +7,7 @@ use Rattle.perf_sample.specs.Spelling.{le}
 use Rattle.perf_sample.specs.Breaks.{number_at, Field, cut_in, wrong_in, fault_in, or_on, first_of}
 use Rattle.perf_sample.specs.Reading.{cut_at}
 use Rattle.perf_sample.specs.declared.faults.SampleFault.{SampleFault}
+use Rattle.perf_sample.specs.Layout.{LayoutWords}
 
 abbrev Found : Type 0
 Found = Option (SampleFault × List ℕ)
@@ -17,7 +18,7 @@ cut_first_by true field rest w n r e = e
 cut_first_by false field rest w n r e = absurd cc
 
 -- a field that is cut is the first that is broken
-pub cut_first : (layout size : ℕ) (field : Field) (fields : List Field) (bytes : List ℕ) (r : SampleFault × List ℕ) → cut_at field bytes ≡ Some r
+pub cut_first : (layout : LayoutWords) (size : ℕ) (field : Field) (fields : List Field) (bytes : List ℕ) (r : SampleFault × List ℕ) → cut_at field bytes ≡ Some r
     → first_of layout size (field ∷ fields) bytes ≡ Some r
 unfolding first_of
 cut_first layout size field fields bytes r e =
@@ -30,13 +31,13 @@ pub behind : (y z : List ℕ) (n : ℕ) → length y ≡ n → drop n (y ++ z) �
 behind y z n e = subst (λ (k : ℕ). drop k (y ++ z) ≡ z) e (drop-append_seam y z)
 
 -- a field whose value is right is passed over
-pub passes : (layout size : ℕ) (field : Field) (fields : List Field) (y z : List ℕ) → length y ≡ 8 → wrong_in layout size field (y ++ z) ≡ None
+pub passes : (layout : LayoutWords) (size : ℕ) (field : Field) (fields : List Field) (y z : List ℕ) → length y ≡ 8 → wrong_in layout size field (y ++ z) ≡ None
     → first_of layout size (field ∷ fields) (y ++ z) ≡ first_of layout size fields z
 unfolding first_of
 passes layout size field fields y z len right = rw (long y z len, right, behind y z 8 len) refl
 
 -- a field whose value is wrong is the first that is broken
-pub stops : (layout size : ℕ) (field : Field) (fields : List Field) (y z : List ℕ) (f : SampleFault) → length y ≡ 8 → wrong_in layout size field (y ++ z) ≡ Some f
+pub stops : (layout : LayoutWords) (size : ℕ) (field : Field) (fields : List Field) (y z : List ℕ) (f : SampleFault) → length y ≡ 8 → wrong_in layout size field (y ++ z) ≡ Some f
     → first_of layout size (field ∷ fields) (y ++ z) ≡ Some (f, z)
 unfolding first_of
 stops layout size field fields y z f len wrong = rw (long y z len, wrong, behind y z 8 len) refl
@@ -59,7 +60,7 @@ early_by : (w : Option SampleFault) (rest : List ℕ) (n m : Found) (r : SampleF
 early_by None rest n m r next e = next e
 early_by (Some f) rest n m r next e = e
 
-pub early : (layout size : ℕ) (ps qs : List Field) (bytes : List ℕ) (r : SampleFault × List ℕ) → first_of layout size ps bytes ≡ Some r → first_of layout size (ps ++ qs) bytes ≡ Some r
+pub early : (layout : LayoutWords) (size : ℕ) (ps qs : List Field) (bytes : List ℕ) (r : SampleFault × List ℕ) → first_of layout size ps bytes ≡ Some r → first_of layout size (ps ++ qs) bytes ≡ Some r
 unfolding first_of
 early layout size [] qs bytes r e = absurd cc
 early layout size (p ∷ ps) qs bytes r e =

@@ -5,7 +5,7 @@ use Rattle.std.proofs.lemmas.List.{drop_all}
 use Rattle.std.specs.Io.KnownBytes.{Consumes, IsAtEnd}
 use Rattle.std.specs.List.{flat_map}
 use Rattle.ctr_port.specs.InHand.{Of}
-use Rattle.perf_sample.specs.Layout.{fixed_len}
+use Rattle.perf_sample.specs.Layout.{LayoutWords, fixed_len}
 use Rattle.perf_sample.specs.Spelling.{le}
 use Rattle.perf_sample.specs.Breaks.{number_at, is_size, Header, At, rows, row_fields, branch_fields, fields_of, first_break, wrong_in, unless, Breaks}
 use Rattle.perf_sample.specs.Reading.{cut_at, IsPartial}
@@ -33,14 +33,14 @@ size_read kind misc size z small =
     ∙ number_behind 6 2 size (le 4 kind ++ le 2 misc) z (omega (arith, length-append (le 4 kind) (le 2 misc), length_le 4 kind, length_le 2 misc)) small
 
 -- less than a header
-pub header_cut : (layout : ℕ) (x : List ℕ) → length x < 8 → first_break layout x ≡ Some (fault.Header, [])
+pub header_cut : (layout : LayoutWords) (x : List ℕ) → length x < 8 → first_break layout x ≡ Some (fault.Header, [])
 unfolding first_break fields_of
 header_cut layout x short =
     let cut : cut_at Header x ≡ Some (fault.Header, []) = rw (lt-ltb (length x) 8 short) (ap (λ (t : List ℕ). Some (fault.Header, t)) (drop_all 8 x (omega (arith, short)))) in
     cut_first layout (number_at 6 2 x) Header (flat_map (row_fields layout) rows ++ At place.Nr ∷ branch_fields 0 (number_at (fixed_len layout - 8) 8 x)) x (fault.Header, []) cut
 
 -- a header that is wrong
-header_stops : (layout kind misc size : ℕ) (z : List ℕ) (f : SampleFault) → kind < 2 ^ 32 → size < 2 ^ 16 → unless (nat_eq kind 9) fault.Kind (unless (is_size layout size) fault.Size None) ≡ Some f
+header_stops : (layout : LayoutWords) (kind misc size : ℕ) (z : List ℕ) (f : SampleFault) → kind < 2 ^ 32 → size < 2 ^ 16 → unless (nat_eq kind 9) fault.Kind (unless (is_size layout size) fault.Size None) ≡ Some f
     → Breaks layout (any_header kind misc size ++ z) f z
 unfolding first_break fields_of
 header_stops layout kind misc size z f small_kind small_size wrong =
@@ -55,7 +55,7 @@ header_stops layout kind misc size z f small_kind small_size wrong =
     }
 
 -- the input ended in a header
-pub header_ended : (layout n : ℕ) (a b : Option (List ℕ)) → (n ≡ 0 → ⊥) → ((x : List ℕ) × (length x ≡ n) × (n < 8) × Consumes a b x × IsAtEnd b)
+pub header_ended : (layout : LayoutWords) (n : ℕ) (a b : Option (List ℕ)) → (n ≡ 0 → ⊥) → ((x : List ℕ) × (length x ≡ n) × (n < 8) × Consumes a b x × IsAtEnd b)
     → Of a b (λ t t'. Breaks layout t fault.Header t')
 header_ended layout n None b some taken = tt
 header_ended layout n (Some t) None some (x, len, short, took, end) = absurd took
@@ -63,22 +63,22 @@ header_ended layout n (Some t) (Some u) some (x, len, short, took, end) =
     let whole : t ≡ x = took ∙ ap (λ (s : List ℕ). x ++ s) end ∙ append-nil x in
     rw (whole, end) (record { some = λ none. some (sym len ∙ ap length none); first = header_cut layout x (omega (arith, len, short)) })
 
-partial : (layout : ℕ) (x : List ℕ) → length x < 8 → IsPartial layout x
+partial : (layout : LayoutWords) (x : List ℕ) → length x < 8 → IsPartial layout x
 partial layout [] short = inl refl
 partial layout (b ∷ x) short = inr (fault.Header, refl, record { some = λ none. absurd cc; first = header_cut layout (b ∷ x) short })
 
 -- a read failed in a header
-pub header_failed : (layout : ℕ) (a b : Option (List ℕ)) → ((x : List ℕ) × (length x < 8) × Consumes a b x) → (x : List ℕ) × Consumes a b x × IsPartial layout x
+pub header_failed : (layout : LayoutWords) (a b : Option (List ℕ)) → ((x : List ℕ) × (length x < 8) × Consumes a b x) → (x : List ℕ) × Consumes a b x × IsPartial layout x
 header_failed layout a b (x, short, took) = (x, took, partial layout x short)
 
 -- the type is wrong, or the size
-pub kind_wrong : (layout kind misc size : ℕ) (a b : Option (List ℕ)) → kind < 2 ^ 32 → size < 2 ^ 16 → (kind ≡ 9 → ⊥) → Consumes a b (any_header kind misc size)
+pub kind_wrong : (layout : LayoutWords) (kind misc size : ℕ) (a b : Option (List ℕ)) → kind < 2 ^ 32 → size < 2 ^ 16 → (kind ≡ 9 → ⊥) → Consumes a b (any_header kind misc size)
     → Of a b (λ t t'. Breaks layout t fault.Kind t')
 kind_wrong layout kind misc size a b small_kind small_size wrong took =
     of_taken a b (any_header kind misc size) (λ t t'. Breaks layout t fault.Kind t') took
     (λ z. header_stops layout kind misc size z fault.Kind small_kind small_size (rw (ne_eqb kind 9 wrong) refl))
 
-pub size_wrong : (layout kind misc size : ℕ) (a b : Option (List ℕ)) → kind < 2 ^ 32 → size < 2 ^ 16 → kind ≡ 9 → is_size layout size ≡ false → Consumes a b (any_header kind misc size)
+pub size_wrong : (layout : LayoutWords) (kind misc size : ℕ) (a b : Option (List ℕ)) → kind < 2 ^ 32 → size < 2 ^ 16 → kind ≡ 9 → is_size layout size ≡ false → Consumes a b (any_header kind misc size)
     → Of a b (λ t t'. Breaks layout t fault.Size t')
 size_wrong layout kind misc size a b small_kind small_size right wrong took =
     of_taken a b (any_header kind misc size) (λ t t'. Breaks layout t fault.Size t') took

@@ -6,7 +6,7 @@ use Rattle.std.proofs.lemmas.List.Elements.{All-head, All-tail}
 use Rattle.std.specs.List.{All, flat_map}
 use Rattle.perf_sample.specs.declared.sample.Branch.{Branch}
 use Rattle.perf_sample.specs.declared.sample.Sample.{Sample}
-use Rattle.perf_sample.specs.Layout.{has, fixed_len, LeftOut, Fits}
+use Rattle.perf_sample.specs.Layout.{LayoutWords, has, fixed_len, LeftOut, Fits}
 use Rattle.perf_sample.specs.Spelling.{le, present, fields, branch_bytes, spelling, Spells}
 use Rattle.perf_sample.specs.Breaks.{number_at, is_size, first_of, first_break, branch_fields}
 use Rattle.perf_sample.specs.BranchRange.{IsBranch}
@@ -18,7 +18,7 @@ use Rattle.perf_sample.proofs.SampleLaws.{behind_nr}
 use Rattle.perf_sample.proofs.SpellingLaws.{size_of, length_one, length_two, length_fields, length_branches, length_spelling, fixed_most, size_at, length_told, size_stays}
 
 -- the size of a sample is one that a sample may have
-right_size : (layout nr : ℕ) → nr ≤ 256 → is_size layout (fixed_len layout + 24 * nr) ≡ true
+right_size : (layout : LayoutWords) (nr : ℕ) → nr ≤ 256 → is_size layout (fixed_len layout + 24 * nr) ≡ true
 right_size layout nr few =
     let f = fixed_len layout in
     let low : nat_le f (f + 24 * nr) ≡ true = le-leb f (f + 24 * nr) (omega arith) in
@@ -27,7 +27,7 @@ right_size layout nr few =
     rw (low, high, whole) refl
 
 -- a spelling has no break
-pub spelled_whole : (layout : ℕ) (s : Sample) (x z : List ℕ) → Spells layout s x → first_break layout (x ++ z) ≡ None
+pub spelled_whole : (layout : LayoutWords) (s : Sample) (x z : List ℕ) → Spells layout s x → first_break layout (x ++ z) ≡ None
 unfolding spelling first_of branch_fields
 spelled_whole layout s x z spells =
     let bs = s.branches in
@@ -60,7 +60,7 @@ one_by : (b : Bool) (m n : ℕ) → (b ≡ false → m ≡ 0) → (b ≡ false �
 one_by true m n offm offn hm hn e = le_same 8 m n hm hn e
 one_by false m n offm offn hm hn e = offm refl ∙ sym (offn refl)
 
-one_same : (layout place m n : ℕ) → LeftOut layout place m → LeftOut layout place n → m < 2 ^ 64 → n < 2 ^ 64 → present layout place (le 8 m) ≡ present layout place (le 8 n) → m ≡ n
+one_same : (layout : LayoutWords) (place m n : ℕ) → LeftOut layout place m → LeftOut layout place n → m < 2 ^ 64 → n < 2 ^ 64 → present layout place (le 8 m) ≡ present layout place (le 8 n) → m ≡ n
 one_same layout place m n offm offn hm hn e = one_by (has layout place) m n offm offn hm hn e
 
 two_by : (b : Bool) (m n p q : ℕ) → (b ≡ false → m ≡ 0) → (b ≡ false → n ≡ 0) → (b ≡ false → p ≡ 0) → (b ≡ false → q ≡ 0) → m < 2 ^ 32 → n < 2 ^ 32 → p < 2 ^ 32 → q < 2 ^ 32
@@ -102,7 +102,7 @@ record SameFields (s t : Sample) : Type 0 where
   cpu : s.cpu ≡ t.cpu
   period : s.period ≡ t.period
 
-fields_same : (layout : ℕ) (s t : Sample) → Fits layout s → Fits layout t → IsSample s → IsSample t → fields layout s ≡ fields layout t → SameFields s t
+fields_same : (layout : LayoutWords) (s t : Sample) → Fits layout s → Fits layout t → IsSample s → IsSample t → fields layout s ≡ fields layout t → SameFields s t
 unfolding fields
 fields_same layout s t f g is it e =
     let a_s = present layout 16 (le 8 s.identifier) in
@@ -187,7 +187,7 @@ sample_same s t misc same branches =
     rw (misc, same.identifier, same.ip, same.pid, same.tid, same.time, same.addr, same.id, same.stream_id, same.cpu, same.period, branches) refl in made
 
 -- samples with the same spelling are the same
-spelling_same : (layout : ℕ) (s t : Sample) → Fits layout s → Fits layout t → IsSample s → IsSample t → length s.branches ≤ 256 → length t.branches ≤ 256 → spelling layout s ≡ spelling layout t → s ≡ t
+spelling_same : (layout : LayoutWords) (s t : Sample) → Fits layout s → Fits layout t → IsSample s → IsSample t → length s.branches ≤ 256 → length t.branches ≤ 256 → spelling layout s ≡ spelling layout t → s ≡ t
 unfolding spelling
 spelling_same layout s t f g is it few less e =
     let size = size_of layout s in
@@ -207,7 +207,7 @@ spelling_same layout s t f g is it few less e =
     sample_same s t (le_same 2 s.misc t.misc is.misc it.misc misc.1) (fields_same layout s t f g is it second.1) (branches_same s.branches t.branches counts is.branches it.branches last.1)
 
 -- bytes begin with one spelling at most
-pub one_length : (layout : ℕ) (s t : Sample) (x y z w : List ℕ) → Spells layout s x → Spells layout t y → x ++ z ≡ y ++ w → (x ≡ y) × (z ≡ w)
+pub one_length : (layout : LayoutWords) (s t : Sample) (x y z w : List ℕ) → Spells layout s x → Spells layout t y → x ++ z ≡ y ++ w → (x ≡ y) × (z ≡ w)
 unfolding fixed_len
 one_length layout s t x y z w first second e =
     let long : 8 ≤ length x = omega (arith, ap length first.bytes_are, length_spelling layout s) in
@@ -216,7 +216,7 @@ one_length layout s t x y z w first second e =
     cut_front x y z w len e
 
 -- and of one sample
-pub one_spelling : (layout : ℕ) (s t : Sample) (x y z w : List ℕ) → IsSample s → IsSample t → Spells layout s x → Spells layout t y → x ++ z ≡ y ++ w → (s ≡ t) × (x ≡ y) × (z ≡ w)
+pub one_spelling : (layout : LayoutWords) (s t : Sample) (x y z w : List ℕ) → IsSample s → IsSample t → Spells layout s x → Spells layout t y → x ++ z ≡ y ++ w → (s ≡ t) × (x ≡ y) × (z ≡ w)
 one_spelling layout s t x y z w is it first second e =
     let parts = one_length layout s t x y z w first second e in
     (spelling_same layout s t first.fits second.fits is it first.few second.few (sym first.bytes_are ∙ parts.0 ∙ second.bytes_are), parts.0, parts.1)

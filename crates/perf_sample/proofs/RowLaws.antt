@@ -12,7 +12,7 @@ use Rattle.perf_sample.specs.declared.faults.Place.{Place}
 use Rattle.perf_sample.specs.declared.faults.Place.TheVariants as place
 use Rattle.perf_sample.specs.declared.faults.SampleFault.{SampleFault}
 use Rattle.perf_sample.specs.declared.faults.SampleFault.TheVariants as fault
-use Rattle.perf_sample.specs.Layout.{has, Fits}
+use Rattle.perf_sample.specs.Layout.{LayoutWords, has, Fits}
 use Rattle.perf_sample.specs.Spelling.{le, present, fields}
 use Rattle.perf_sample.specs.Breaks.{number_at, Field, At, rows, row_fields, wrong_in, first_of}
 use Rattle.perf_sample.specs.Reading.{cut_at, Stopped}
@@ -31,15 +31,15 @@ abbrev pub row_of : ℕ → Row
 row_of n = get_or rows n none
 
 -- the bytes of a row, where the layout has its field
-abbrev pub row_bytes : ℕ → Sample → Row → List ℕ
+abbrev pub row_bytes : LayoutWords → Sample → Row → List ℕ
 row_bytes layout s r = present layout r.0 (place_bytes r.1 s)
 
 -- the bytes of the first n rows
-abbrev pub front : ℕ → Sample → ℕ → List ℕ
+abbrev pub front : LayoutWords → Sample → ℕ → List ℕ
 front layout s n = flat_map (row_bytes layout s) (take n rows)
 
 -- what stays where a row is read into a sample
-pub record Kept (layout n : ℕ) (old new : Sample) : Type 0 where
+pub record Kept (layout : LayoutWords) (n : ℕ) (old new : Sample) : Type 0 where
   pub front : front layout new n ≡ front layout old n
   pub fits : Fits layout new
   pub misc : new.misc ≡ old.misc
@@ -49,7 +49,7 @@ there : {A : Type 0} (b : Bool) → b ≡ true → b ≡ false → A
 there true e f = absurd (true≢false f)
 there false e f = absurd (false≢true e)
 
-pub row_kept : (layout n : ℕ) (old new : Sample) → n < 9 → SetsOnly (row_of n).1 old new → has layout (row_of n).0 ≡ true → Fits layout old → Kept layout n old new
+pub row_kept : (layout : LayoutWords) (n : ℕ) (old new : Sample) → n < 9 → SetsOnly (row_of n).1 old new → has layout (row_of n).0 ≡ true → Fits layout old → Kept layout n old new
 row_kept layout zero old new within e on f = record {
   front = ap (λ (s : Sample). front layout s 0) e;
   fits = subst (Fits layout) (sym e) (record {
@@ -215,7 +215,7 @@ row_kept layout (suc (suc (suc (suc (suc (suc (suc (suc zero)))))))) old new wit
 row_kept layout (suc (suc (suc (suc (suc (suc (suc (suc (suc n))))))))) old new within e on f = absurd (omega (arith, within))
 
 -- one row more
-pub front_more : (layout : ℕ) (s : Sample) (n : ℕ) → n < 9 → front layout s (n + 1) ≡ front layout s n ++ row_bytes layout s (row_of n)
+pub front_more : (layout : LayoutWords) (s : Sample) (n : ℕ) → n < 9 → front layout s (n + 1) ≡ front layout s n ++ row_bytes layout s (row_of n)
 front_more layout s n within =
     ap (flat_map (row_bytes layout s)) (take_more rows n none within)
     ∙ flat_map-append (row_bytes layout s) (take n rows) (row_of n ∷ [])
@@ -226,7 +226,7 @@ left_out_by true x y e = absurd (true≢false e)
 left_out_by false x y e = append-nil x
 
 -- a row that the layout leaves out
-pub front_left_out : (layout : ℕ) (s : Sample) (n : ℕ) → n < 9 → has layout (row_of n).0 ≡ false → front layout s (n + 1) ≡ front layout s n
+pub front_left_out : (layout : LayoutWords) (s : Sample) (n : ℕ) → n < 9 → has layout (row_of n).0 ≡ false → front layout s (n + 1) ≡ front layout s n
 front_left_out layout s n within off = front_more layout s n within ∙ left_out_by (has layout (row_of n).0) (front layout s n) (place_bytes (row_of n).1 s) off
 
 there_by : (b : Bool) (x y : List ℕ) → b ≡ true → x ++ (if b then y else []) ≡ x ++ y
@@ -234,14 +234,14 @@ there_by true x y e = refl
 there_by false x y e = absurd (false≢true e)
 
 -- a row that was read
-pub front_read : (layout : ℕ) (old new : Sample) (n : ℕ) → n < 9 → has layout (row_of n).0 ≡ true → Kept layout n old new → front layout new (n + 1) ≡ front layout old n ++ place_bytes (row_of n).1 new
+pub front_read : (layout : LayoutWords) (old new : Sample) (n : ℕ) → n < 9 → has layout (row_of n).0 ≡ true → Kept layout n old new → front layout new (n + 1) ≡ front layout old n ++ place_bytes (row_of n).1 new
 front_read layout old new n within on kept =
     front_more layout new n within
     ∙ there_by (has layout (row_of n).0) (front layout new n) (place_bytes (row_of n).1 new) on
     ∙ ap (λ (t : List ℕ). t ++ place_bytes (row_of n).1 new) kept.front
 
 -- all rows are the fields
-pub front_whole : (layout : ℕ) (s : Sample) → front layout s 9 ≡ fields layout s
+pub front_whole : (layout : LayoutWords) (s : Sample) → front layout s 9 ≡ fields layout s
 unfolding fields
 front_whole layout s =
     let a = row_bytes layout s (row_of 0) in
@@ -298,7 +298,7 @@ length_place (place.Flags i) s e = absurd (false≢true e)
 reserved_read : (cpu reserved : ℕ) (z : List ℕ) → reserved < 2 ^ 32 → number_at 4 4 ((le 4 cpu ++ le 4 reserved) ++ z) ≡ reserved
 reserved_read cpu reserved z small = ap (number_at 4 4) (append_assoc (le 4 cpu) (le 4 reserved) z) ∙ number_behind 4 4 reserved (le 4 cpu) z (length_le 4 cpu) small
 
-right_place : (layout size : ℕ) (p : Place) (s : Sample) (z : List ℕ) → is_row p ≡ true → wrong_in layout size (At p) (place_bytes p s ++ z) ≡ None
+right_place : (layout : LayoutWords) (size : ℕ) (p : Place) (s : Sample) (z : List ℕ) → is_row p ≡ true → wrong_in layout size (At p) (place_bytes p s ++ z) ≡ None
 right_place layout size place.Identifier s z e = refl
 right_place layout size place.Ip s z e = refl
 right_place layout size place.Tid s z e = refl
@@ -313,13 +313,13 @@ right_place layout size (place.From i) s z e = absurd (false≢true e)
 right_place layout size (place.To i) s z e = absurd (false≢true e)
 right_place layout size (place.Flags i) s z e = absurd (false≢true e)
 
-row_passes_by : (b : Bool) (layout size : ℕ) (p : Place) (s : Sample) (qs : List Field) (z : List ℕ) → is_row p ≡ true
+row_passes_by : (b : Bool) (layout : LayoutWords) (size : ℕ) (p : Place) (s : Sample) (qs : List Field) (z : List ℕ) → is_row p ≡ true
     → first_of layout size ((if b then At p ∷ [] else []) ++ qs) ((if b then place_bytes p s else []) ++ z) ≡ first_of layout size qs z
 row_passes_by true layout size p s qs z e = passes layout size (At p) qs (place_bytes p s) z (length_place p s e) (right_place layout size p s z e)
 row_passes_by false layout size p s qs z e = refl
 
 -- whole rows are passed over
-pub rows_pass : (layout size : ℕ) (rs : List Row) (s : Sample) (qs : List Field) (z : List ℕ) → All IsRow rs
+pub rows_pass : (layout : LayoutWords) (size : ℕ) (rs : List Row) (s : Sample) (qs : List Field) (z : List ℕ) → All IsRow rs
     → first_of layout size (flat_map (row_fields layout) rs ++ qs) (flat_map (row_bytes layout s) rs ++ z) ≡ first_of layout size qs z
 rows_pass layout size [] s qs z are = refl
 rows_pass layout size (r ∷ rs) s qs z are =
@@ -335,7 +335,7 @@ row_there_by true p fs e = refl
 row_there_by false p fs e = absurd (false≢true e)
 
 -- the fields of all rows, at a row that is there
-rows_split : (layout n : ℕ) → n < 9 → has layout (row_of n).0 ≡ true
+rows_split : (layout : LayoutWords) (n : ℕ) → n < 9 → has layout (row_of n).0 ≡ true
     → flat_map (row_fields layout) rows ≡ flat_map (row_fields layout) (take n rows) ++ ((At (row_of n).1 ∷ []) ++ flat_map (row_fields layout) (drop (n + 1) rows))
 rows_split layout n within on =
     let behind : drop n rows ≡ row_of n ∷ drop (n + 1) rows = rw (add-one n) (drop-cons rows n none within) in
@@ -345,8 +345,8 @@ rows_split layout n within on =
     ∙ ap (λ (l : List Field). flat_map (row_fields layout) (take n rows) ++ l) (row_there_by (has layout (row_of n).0) (row_of n).1 (flat_map (row_fields layout) (drop (n + 1) rows)) on)
 
 -- reading stopped in a row that follows others
-pub rows_stop : (a b c : Option (List ℕ)) (layout n : ℕ) (s : Sample) (f : SampleFault) → n < 9 → has layout (row_of n).0 ≡ true → Consumes a b (front layout s n)
-    → ((layout size : ℕ) → Stopped (first_of layout size (At (row_of n).1 ∷ [])) b c f) → (size : ℕ) → Stopped (first_of layout size (flat_map (row_fields layout) rows)) a c f
+pub rows_stop : (a b c : Option (List ℕ)) (layout : LayoutWords) (n : ℕ) (s : Sample) (f : SampleFault) → n < 9 → has layout (row_of n).0 ≡ true → Consumes a b (front layout s n)
+    → ((layout : LayoutWords) (size : ℕ) → Stopped (first_of layout size (At (row_of n).1 ∷ [])) b c f) → (size : ℕ) → Stopped (first_of layout size (flat_map (row_fields layout) rows)) a c f
 rows_stop a b c layout n s f within on took h size =
     let behind = flat_map (row_fields layout) (drop (n + 1) rows) in
     let here = At (row_of n).1 ∷ [] in
@@ -358,7 +358,7 @@ rows_stop a b c layout n s f within on took h size =
     (h layout size)
 
 -- the bytes ended in the field of a row, or in its place
-pub row_cut : (a b : Option (List ℕ)) (p : Place) (f : SampleFault) → Stopped (cut_at (At p)) a b f → (layout size : ℕ) → Stopped (first_of layout size (At p ∷ [])) a b f
+pub row_cut : (a b : Option (List ℕ)) (p : Place) (f : SampleFault) → Stopped (cut_at (At p)) a b f → (layout : LayoutWords) (size : ℕ) → Stopped (first_of layout size (At p ∷ [])) a b f
 row_cut a b p f h layout size = stopped_as a b (cut_at (At p)) (first_of layout size (At p ∷ [])) f (λ z r e. cut_first layout size (At p) [] z r e) h
 
 -- what was put into the sample was taken
@@ -390,7 +390,7 @@ held (place.To i) bytes s e h = absurd (false≢true e)
 held (place.Flags i) bytes s e h = absurd (false≢true e)
 
 -- the bytes of a row were taken after those of the rows before it
-pub front_taken : (a b c : Option (List ℕ)) (layout : ℕ) (old new : Sample) (n : ℕ) → n < 9 → has layout (row_of n).0 ≡ true → Kept layout n old new → Consumes a b (front layout old n)
+pub front_taken : (a b c : Option (List ℕ)) (layout : LayoutWords) (old new : Sample) (n : ℕ) → n < 9 → has layout (row_of n).0 ≡ true → Kept layout n old new → Consumes a b (front layout old n)
     → ((bytes : List ℕ) × Consumes b c bytes × Holds (row_of n).1 bytes new × SetsOnly (row_of n).1 old new) → Consumes a c (front layout new (n + 1))
 front_taken a b c layout old new n within on kept took (bytes, next, holds, sets) =
     let whole : front layout new (n + 1) ≡ front layout old n ++ bytes =

@@ -7,7 +7,7 @@ use Rattle.byteorder.specs.Endian.{little_number}
 use Rattle.byteorder.specs.Numbers.{length-bytes_low_first, little_number-reads_back, little_from-append}
 use Rattle.perf_sample.specs.declared.sample.Branch.{Branch}
 use Rattle.perf_sample.specs.declared.sample.Sample.{Sample}
-use Rattle.perf_sample.specs.Layout.{has, width, fields_len, fixed_len}
+use Rattle.perf_sample.specs.Layout.{LayoutWords, has, width, fields_len, fixed_len}
 use Rattle.perf_sample.specs.Spelling.{le, present, fields, branch_bytes, spelling, Spells}
 
 length_le : (k n : ℕ) → length (le k n) ≡ k
@@ -15,17 +15,17 @@ unfolding le
 length_le k n = length-bytes_low_first 0 k n
 
 -- a field of eight bytes, there or left out
-length_present : (layout place : ℕ) (bytes : List ℕ) → length bytes ≡ 8 → length (present layout place bytes) ≡ width layout place
+length_present : (layout : LayoutWords) (place : ℕ) (bytes : List ℕ) → length bytes ≡ 8 → length (present layout place bytes) ≡ width layout place
 length_present layout place bytes e =
     elim (has layout place) as (λ (b : Bool). length (if b then bytes else []) ≡ (if b then 8 else 0)) [ true ↦ e | false ↦ refl ]
 
-pub length_one : (layout place n : ℕ) → length (present layout place (le 8 n)) ≡ width layout place
+pub length_one : (layout : LayoutWords) (place n : ℕ) → length (present layout place (le 8 n)) ≡ width layout place
 length_one layout place n = length_present layout place (le 8 n) (length_le 8 n)
 
-pub length_two : (layout place m n : ℕ) → length (present layout place (le 4 m ++ le 4 n)) ≡ width layout place
+pub length_two : (layout : LayoutWords) (place m n : ℕ) → length (present layout place (le 4 m ++ le 4 n)) ≡ width layout place
 length_two layout place m n = length_present layout place (le 4 m ++ le 4 n) (omega (arith, length-append (le 4 m) (le 4 n), length_le 4 m, length_le 4 n))
 
-pub length_fields : (layout : ℕ) (s : Sample) → length (fields layout s) ≡ fields_len layout
+pub length_fields : (layout : LayoutWords) (s : Sample) → length (fields layout s) ≡ fields_len layout
 unfolding fields fields_len
 length_fields layout s =
     let a = present layout 16 (le 8 s.identifier) in
@@ -76,13 +76,13 @@ length_branches (b ∷ bs) =
 abbrev before : Sample → List ℕ
 before s = le 4 9 ++ le 2 s.misc
 
-abbrev behind : ℕ → Sample → List ℕ
+abbrev behind : LayoutWords → Sample → List ℕ
 behind layout s = fields layout s ++ (le 8 (length s.branches) ++ flat_map branch_bytes s.branches)
 
-abbrev pub size_of : ℕ → Sample → ℕ
+abbrev pub size_of : LayoutWords → Sample → ℕ
 size_of layout s = fixed_len layout + 24 * length s.branches
 
-parts : (layout : ℕ) (s : Sample) → spelling layout s ≡ before s ++ (le 2 (size_of layout s) ++ behind layout s)
+parts : (layout : LayoutWords) (s : Sample) → spelling layout s ≡ before s ++ (le 2 (size_of layout s) ++ behind layout s)
 unfolding spelling
 parts layout s =
     let a = before s in
@@ -92,7 +92,7 @@ parts layout s =
     let e = flat_map branch_bytes s.branches in
     append_assoc (a ++ b ++ c) d e ∙ append_assoc (a ++ b) c (d ++ e) ∙ append_assoc a b (c ++ (d ++ e))
 
-pub length_spelling : (layout : ℕ) (s : Sample) → length (spelling layout s) ≡ size_of layout s
+pub length_spelling : (layout : LayoutWords) (s : Sample) → length (spelling layout s) ≡ size_of layout s
 unfolding fixed_len
 length_spelling layout s =
     let a = before s in
@@ -116,10 +116,10 @@ length_spelling layout s =
       length_branches s.branches,
     )
 
-width_most : (layout place : ℕ) → width layout place ≤ 8
+width_most : (layout : LayoutWords) (place : ℕ) → width layout place ≤ 8
 width_most layout place = elim (has layout place) as (λ (b : Bool). (if b then 8 else 0) ≤ 8) [ true ↦ omega arith | false ↦ omega arith ]
 
-pub fixed_most : (layout : ℕ) → fixed_len layout ≤ 88
+pub fixed_most : (layout : LayoutWords) → fixed_len layout ≤ 88
 unfolding fixed_len fields_len
 fixed_most layout =
     omega (arith, width_most layout 16, width_most layout 0, width_most layout 1, width_most layout 2, width_most layout 3, width_most layout 6, width_most layout 9, width_most layout 7, width_most layout 8)
@@ -133,7 +133,7 @@ behind_before s rest =
     let six : length (before s) ≡ 6 = omega (arith, length-append (le 4 9) (le 2 s.misc), length_le 4 9, length_le 2 s.misc) in
     subst (λ (n : ℕ). drop n (before s ++ rest) ≡ rest) six (drop-append_seam (before s) rest)
 
-told : (layout : ℕ) (s : Sample) (bytes : List ℕ) → Spells layout s bytes → size_at bytes ≡ size_of layout s
+told : (layout : LayoutWords) (s : Sample) (bytes : List ℕ) → Spells layout s bytes → size_at bytes ≡ size_of layout s
 unfolding size_at le
 told layout s bytes spells =
     let small : size_of layout s < 256 ^ 2 = omega (arith, fixed_most layout, spells.few) in
@@ -142,7 +142,7 @@ told layout s bytes spells =
     ∙ little_number-reads_back 2 (size_of layout s) (behind layout s) small
 
 -- it is the length of the bytes, and tells it whatever follows
-pub length_told : (layout : ℕ) (s : Sample) (bytes : List ℕ) → Spells layout s bytes → length bytes ≡ size_at bytes
+pub length_told : (layout : LayoutWords) (s : Sample) (bytes : List ℕ) → Spells layout s bytes → length bytes ≡ size_at bytes
 length_told layout s bytes spells = ap length spells.bytes_are ∙ length_spelling layout s ∙ sym (told layout s bytes spells)
 
 pub size_stays : (bytes more : List ℕ) → 8 ≤ length bytes → size_at (bytes ++ more) ≡ size_at bytes
@@ -155,7 +155,7 @@ nothing_more : (more : List ℕ) → length more ≡ 0 → more ≡ []
 nothing_more [] e = refl
 nothing_more (x ∷ more) e = absurd (omega (arith, e))
 
-pub prefix_free : (layout : ℕ) (a b : Sample) (bytes more : List ℕ) → Spells layout a bytes → Spells layout b (bytes ++ more) → more ≡ []
+pub prefix_free : (layout : LayoutWords) (a b : Sample) (bytes more : List ℕ) → Spells layout a bytes → Spells layout b (bytes ++ more) → more ≡ []
 unfolding fixed_len
 prefix_free layout a b bytes more first second =
     let len : length bytes ≡ size_of layout a = ap length first.bytes_are ∙ length_spelling layout a in

@@ -12,7 +12,7 @@ use Rattle.perf_sample.specs.declared.faults.Place.{Place}
 use Rattle.perf_sample.specs.declared.faults.Place.TheVariants as place
 use Rattle.perf_sample.specs.declared.faults.SampleFault.{SampleFault}
 use Rattle.perf_sample.specs.declared.faults.SampleFault.TheVariants as fault
-use Rattle.perf_sample.specs.Layout.{has, fixed_len, FlagsFit, Fits}
+use Rattle.perf_sample.specs.Layout.{LayoutWords, has, fixed_len, FlagsFit, Fits}
 use Rattle.perf_sample.specs.Spelling.{le, present, fields, branch_bytes, Spells}
 use Rattle.perf_sample.specs.Breaks.{number_at, is_size, Field, Header, At, rows, row_fields, branch_fields, fields_of, cut_in, wrong_in, or_on, unless, first_of, first_break}
 use Rattle.perf_sample.specs.BranchRange.{IsBranch}
@@ -34,12 +34,12 @@ passed_by true field rest w n e = absurd cc
 passed_by false field rest (Some f) n e = absurd cc
 passed_by false field rest None n e = (refl, refl, e)
 
-record Passed (layout size : ℕ) (field : Field) (fields : List Field) (bytes : List ℕ) : Type 0 where
+record Passed (layout : LayoutWords) (size : ℕ) (field : Field) (fields : List Field) (bytes : List ℕ) : Type 0 where
   long : 8 ≤ length bytes
   right : wrong_in layout size field bytes ≡ None
   none : first_of layout size fields (drop 8 bytes) ≡ None
 
-passed : (layout size : ℕ) (field : Field) (fields : List Field) (bytes : List ℕ) → first_of layout size (field ∷ fields) bytes ≡ None → Passed layout size field fields bytes
+passed : (layout : LayoutWords) (size : ℕ) (field : Field) (fields : List Field) (bytes : List ℕ) → first_of layout size (field ∷ fields) bytes ≡ None → Passed layout size field fields bytes
 unfolding first_of
 passed layout size field fields bytes e =
     let p = passed_by (nat_lt (length bytes) 8) field (drop 8 bytes) (wrong_in layout size field bytes) (first_of layout size fields (drop 8 bytes)) e in
@@ -109,7 +109,7 @@ header_of bytes long are =
     }
 
 -- a row without a break holds a number, or is left out
-record OneRow (b : Bool) (layout size : ℕ) (fs : List Field) (bytes : List ℕ) : Type 0 where
+record OneRow (b : Bool) (layout : LayoutWords) (size : ℕ) (fs : List Field) (bytes : List ℕ) : Type 0 where
   n : ℕ
   small : n < 2 ^ 64
   off : b ≡ false → n ≡ 0
@@ -118,7 +118,7 @@ record OneRow (b : Bool) (layout size : ℕ) (fs : List Field) (bytes : List ℕ
   is : bytes ≡ (if b then le 8 n else []) ++ rest
   none : first_of layout size fs rest ≡ None
 
-one_row_by : (b : Bool) (layout size : ℕ) (p : Place) (fs : List Field) (bytes : List ℕ) → AreBytes bytes → first_of layout size ((if b then At p ∷ [] else []) ++ fs) bytes ≡ None
+one_row_by : (b : Bool) (layout : LayoutWords) (size : ℕ) (p : Place) (fs : List Field) (bytes : List ℕ) → AreBytes bytes → first_of layout size ((if b then At p ∷ [] else []) ++ fs) bytes ≡ None
     → OneRow b layout size fs bytes
 one_row_by true layout size p fs bytes are e =
     let seen = passed layout size (At p) fs bytes e in
@@ -126,13 +126,13 @@ one_row_by true layout size p fs bytes are e =
     record { n = one.n; small = one.small; off = λ off. absurd cc; rest = drop 8 bytes; are = are_behind 8 bytes are; is = one.is; none = seen.none }
 one_row_by false layout size p fs bytes are e = record { n = 0; small = omega arith; off = λ off. refl; rest = bytes; are = are; is = refl; none = e }
 
-one_row : (layout size k : ℕ) (p : Place) (fs qs : List Field) (bytes : List ℕ) → AreBytes bytes → first_of layout size ((row_fields layout (k, p) ++ fs) ++ qs) bytes ≡ None
+one_row : (layout : LayoutWords) (size k : ℕ) (p : Place) (fs qs : List Field) (bytes : List ℕ) → AreBytes bytes → first_of layout size ((row_fields layout (k, p) ++ fs) ++ qs) bytes ≡ None
     → OneRow (has layout k) layout size (fs ++ qs) bytes
 one_row layout size k p fs qs bytes are e =
     one_row_by (has layout k) layout size p (fs ++ qs) bytes are (ap (λ (l : List Field). first_of layout size l bytes) (sym (append_assoc (row_fields layout (k, p)) fs qs)) ∙ e)
 
 -- the same of a row of two numbers
-record TwoRow (b : Bool) (layout size : ℕ) (fs : List Field) (bytes : List ℕ) : Type 0 where
+record TwoRow (b : Bool) (layout : LayoutWords) (size : ℕ) (fs : List Field) (bytes : List ℕ) : Type 0 where
   m : ℕ
   n : ℕ
   first : m < 2 ^ 32
@@ -144,7 +144,7 @@ record TwoRow (b : Bool) (layout size : ℕ) (fs : List Field) (bytes : List ℕ
   is : bytes ≡ (if b then le 4 m ++ le 4 n else []) ++ rest
   none : first_of layout size fs rest ≡ None
 
-two_row_by : (b : Bool) (layout size : ℕ) (p : Place) (fs : List Field) (bytes : List ℕ) → AreBytes bytes → first_of layout size ((if b then At p ∷ [] else []) ++ fs) bytes ≡ None
+two_row_by : (b : Bool) (layout : LayoutWords) (size : ℕ) (p : Place) (fs : List Field) (bytes : List ℕ) → AreBytes bytes → first_of layout size ((if b then At p ∷ [] else []) ++ fs) bytes ≡ None
     → TwoRow b layout size fs bytes
 two_row_by true layout size p fs bytes are e =
     let seen = passed layout size (At p) fs bytes e in
@@ -174,13 +174,13 @@ two_row_by false layout size p fs bytes are e = record {
   none = e;
 }
 
-two_row : (layout size k : ℕ) (p : Place) (fs qs : List Field) (bytes : List ℕ) → AreBytes bytes → first_of layout size ((row_fields layout (k, p) ++ fs) ++ qs) bytes ≡ None
+two_row : (layout : LayoutWords) (size k : ℕ) (p : Place) (fs qs : List Field) (bytes : List ℕ) → AreBytes bytes → first_of layout size ((row_fields layout (k, p) ++ fs) ++ qs) bytes ≡ None
     → TwoRow (has layout k) layout size (fs ++ qs) bytes
 two_row layout size k p fs qs bytes are e =
     two_row_by (has layout k) layout size p (fs ++ qs) bytes are (ap (λ (l : List Field). first_of layout size l bytes) (sym (append_assoc (row_fields layout (k, p)) fs qs)) ∙ e)
 
 -- the row of cpu, whose second half is 0
-record CpuRow (b : Bool) (layout size : ℕ) (fs : List Field) (bytes : List ℕ) : Type 0 where
+record CpuRow (b : Bool) (layout : LayoutWords) (size : ℕ) (fs : List Field) (bytes : List ℕ) : Type 0 where
   n : ℕ
   small : n < 2 ^ 32
   off : b ≡ false → n ≡ 0
@@ -198,7 +198,7 @@ right_both true true f g e = (refl, refl)
 right_both true false f g e = absurd cc
 right_both false c f g e = absurd cc
 
-cpu_row_by : (b : Bool) (layout size : ℕ) (fs : List Field) (bytes : List ℕ) → AreBytes bytes → first_of layout size ((if b then At place.Cpu ∷ [] else []) ++ fs) bytes ≡ None
+cpu_row_by : (b : Bool) (layout : LayoutWords) (size : ℕ) (fs : List Field) (bytes : List ℕ) → AreBytes bytes → first_of layout size ((if b then At place.Cpu ∷ [] else []) ++ fs) bytes ≡ None
     → CpuRow b layout size fs bytes
 cpu_row_by true layout size fs bytes are e =
     let seen = passed layout size (At place.Cpu) fs bytes e in
@@ -217,7 +217,7 @@ cpu_row_by true layout size fs bytes are e =
     }
 cpu_row_by false layout size fs bytes are e = record { n = 0; small = omega arith; off = λ off. refl; rest = bytes; are = are; is = refl; none = e }
 
-cpu_row : (layout size : ℕ) (fs qs : List Field) (bytes : List ℕ) → AreBytes bytes → first_of layout size ((row_fields layout (7, place.Cpu) ++ fs) ++ qs) bytes ≡ None
+cpu_row : (layout : LayoutWords) (size : ℕ) (fs qs : List Field) (bytes : List ℕ) → AreBytes bytes → first_of layout size ((row_fields layout (7, place.Cpu) ++ fs) ++ qs) bytes ≡ None
     → CpuRow (has layout 7) layout size (fs ++ qs) bytes
 cpu_row layout size fs qs bytes are e =
     cpu_row_by (has layout 7) layout size (fs ++ qs) bytes are (ap (λ (l : List Field). first_of layout size l bytes) (sym (append_assoc (row_fields layout (7, place.Cpu)) fs qs)) ∙ e)
@@ -248,7 +248,7 @@ four s t u v w a b c d is_s is_t is_u is_v =
     three s t u v a b c is_s is_t is_u ∙ next (a ++ b) c v (d ++ w) is_v ∙ sym (append_assoc (a ++ b ++ c) d w)
 
 -- what stands before the branches, in a sample that has none yet
-record RowsRead (layout size misc : ℕ) (qs : List Field) (bytes : List ℕ) : Type 0 where
+record RowsRead (layout : LayoutWords) (size misc : ℕ) (qs : List Field) (bytes : List ℕ) : Type 0 where
   sample : Sample
   fits : Fits layout sample
   range : IsSample sample
@@ -259,10 +259,10 @@ record RowsRead (layout size misc : ℕ) (qs : List Field) (bytes : List ℕ) : 
   none : first_of layout size qs rest ≡ None
 
 -- the fields of the rows from this one on
-abbrev behind : ℕ → ℕ → List Field
+abbrev behind : LayoutWords → ℕ → List Field
 behind layout n = flat_map (row_fields layout) (drop n rows)
 
-rows_joined : (layout size misc : ℕ) (qs : List Field) (bytes : List ℕ) → misc < 2 ^ 16
+rows_joined : (layout : LayoutWords) (size misc : ℕ) (qs : List Field) (bytes : List ℕ) → misc < 2 ^ 16
     → (a : OneRow (has layout 16) layout size (behind layout 1 ++ qs) bytes)
     → (b : OneRow (has layout 0) layout size (behind layout 2 ++ qs) a.rest)
     → (c : TwoRow (has layout 1) layout size (behind layout 3 ++ qs) b.rest)
@@ -313,7 +313,7 @@ rows_joined layout size misc qs bytes small a b c d e f g h i = record {
   none = i.none;
 }
 
-rows_read : (layout size misc : ℕ) (qs : List Field) (bytes : List ℕ) → misc < 2 ^ 16 → AreBytes bytes → first_of layout size (behind layout 0 ++ qs) bytes ≡ None → RowsRead layout size misc qs bytes
+rows_read : (layout : LayoutWords) (size misc : ℕ) (qs : List Field) (bytes : List ℕ) → misc < 2 ^ 16 → AreBytes bytes → first_of layout size (behind layout 0 ++ qs) bytes ≡ None → RowsRead layout size misc qs bytes
 rows_read layout size misc qs bytes small are free =
     let a = one_row layout size 16 place.Identifier (behind layout 1) qs bytes are free in
     let b = one_row layout size 0 place.Ip (behind layout 2) qs a.rest a.are a.none in
@@ -350,7 +350,7 @@ stack_joined n bytes from to flags right more =
           from.is to.is flags.is more.is;
     }
 
-stack_read : (n layout size i : ℕ) (bytes : List ℕ) → AreBytes bytes → first_of layout size (branch_fields i n) bytes ≡ None → StackRead n bytes
+stack_read : (n : ℕ) (layout : LayoutWords) (size i : ℕ) (bytes : List ℕ) → AreBytes bytes → first_of layout size (branch_fields i n) bytes ≡ None → StackRead n bytes
 unfolding branch_fields
 stack_read zero layout size i bytes are free = record { branches = []; count = refl; fit = All-nil (λ b. b.flags < 2 ^ 33); range = All-nil IsBranch; rest = bytes; is = refl }
 stack_read (suc n) layout size i bytes are free =
@@ -371,7 +371,7 @@ stack_read (suc n) layout size i bytes are free =
     stack_joined n bytes from to flags right (stack_read n layout size (suc i) (drop 8 last) (are_behind 8 last those) c.none)
 
 -- a sample at the front of bytes
-pub record FrontRead (layout : ℕ) (bytes : List ℕ) : Type 0 where
+pub record FrontRead (layout : LayoutWords) (bytes : List ℕ) : Type 0 where
   pub sample : Sample
   pub spelled : List ℕ
   pub rest : List ℕ
@@ -380,7 +380,7 @@ pub record FrontRead (layout : ℕ) (bytes : List ℕ) : Type 0 where
   pub is : bytes ≡ spelled ++ rest
 
 -- header, fields, number of branches and branches are a sample
-front_spelled : (layout : ℕ) (bytes : List ℕ) (h : HeaderRead bytes) (size : ℕ) (qs : List Field) (r : RowsRead layout size h.misc qs (drop 8 bytes)) (one : OneNumber r.rest)
+front_spelled : (layout : LayoutWords) (bytes : List ℕ) (h : HeaderRead bytes) (size : ℕ) (qs : List Field) (r : RowsRead layout size h.misc qs (drop 8 bytes)) (one : OneNumber r.rest)
     (stack : StackRead one.n (drop 8 r.rest)) → h.kind ≡ 9 → one.n ≤ 256 → h.size ≡ fixed_len layout + 24 * one.n → FrontRead layout bytes
 front_spelled layout bytes h size qs r one stack kind few sized =
     let H = header_bytes h.misc h.size in
@@ -413,7 +413,7 @@ front_spelled layout bytes h size qs r one stack kind few sized =
     }
 
 -- the number of branches stands behind the header and the fields
-nr_told : (layout : ℕ) (bytes : List ℕ) (h : HeaderRead bytes) (size : ℕ) (qs : List Field) (r : RowsRead layout size h.misc qs (drop 8 bytes)) (one : OneNumber r.rest)
+nr_told : (layout : LayoutWords) (bytes : List ℕ) (h : HeaderRead bytes) (size : ℕ) (qs : List Field) (r : RowsRead layout size h.misc qs (drop 8 bytes)) (one : OneNumber r.rest)
     → number_at (fixed_len layout - 8) 8 bytes ≡ one.n
 unfolding fixed_len
 nr_told layout bytes h size qs r one =
@@ -423,7 +423,7 @@ nr_told layout bytes h size qs r one =
     ap (number_at (fixed_len layout - 8) 8) (three bytes (drop 8 bytes) r.rest (drop 8 r.rest) H R (le 8 one.n) h.is r.is one.is)
     ∙ number_behind (fixed_len layout - 8) 8 one.n (H ++ R) (drop 8 r.rest) at one.small
 
-front_joined : (layout told : ℕ) (bytes : List ℕ) (h : HeaderRead bytes) (r : RowsRead layout (number_at 6 2 bytes) h.misc (At place.Nr ∷ branch_fields 0 told) (drop 8 bytes)) → h.kind ≡ 9
+front_joined : (layout : LayoutWords) (told : ℕ) (bytes : List ℕ) (h : HeaderRead bytes) (r : RowsRead layout (number_at 6 2 bytes) h.misc (At place.Nr ∷ branch_fields 0 told) (drop 8 bytes)) → h.kind ≡ 9
     → told ≡ number_at (fixed_len layout - 8) 8 bytes → FrontRead layout bytes
 front_joined layout told bytes h r kind tells =
     let size = number_at 6 2 bytes in
@@ -439,7 +439,7 @@ front_joined layout told bytes h r kind tells =
     let stack = stack_read one.n layout size 0 (drop 8 r.rest) (are_behind 8 r.rest r.are) (ap (λ (k : ℕ). first_of layout size (branch_fields 0 k) (drop 8 r.rest)) (sym same) ∙ at.none) in
     front_spelled layout bytes h size (At place.Nr ∷ branch_fields 0 told) r one stack kind few sized
 
-pub front_read : (layout : ℕ) (bytes : List ℕ) → AreBytes bytes → first_break layout bytes ≡ None → FrontRead layout bytes
+pub front_read : (layout : LayoutWords) (bytes : List ℕ) → AreBytes bytes → first_break layout bytes ≡ None → FrontRead layout bytes
 unfolding first_break fields_of
 front_read layout bytes are free =
     let told = number_at (fixed_len layout - 8) 8 bytes in

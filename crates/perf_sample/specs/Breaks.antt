@@ -1,9 +1,10 @@
 -- Where bytes break a layout: at the first field from the left that is broken (perf_event.h, PERF_RECORD_SAMPLE). Each field
 -- has eight bytes.
-use Rattle.std.specs.Prelude.{◌≡◌, ◌≢◌, ℕ, zero, suc, ◌+◌, ◌*◌, ◌-◌, ◌%◌, ◌^◌, Bool, true, false, ◌&&◌, if◌then◌else◌, nat_eq, nat_le, nat_lt, List, [], ◌∷◌, ◌++◌, length, drop, Option, Some, None}
+use Rattle.std.specs.Prelude.{◌≡◌, ◌≢◌, ℕ, zero, suc, ◌+◌, ◌*◌, ◌-◌, ◌%◌, Bool, true, false, ◌&&◌, if◌then◌else◌, nat_eq, nat_le, nat_lt, List, [], ◌∷◌, ◌++◌, length, drop, Option, Some, None}
 use Rattle.std.specs.List.{flat_map}
 use Rattle.byteorder.specs.Endian.{little_number}
-use Rattle.perf_sample.specs.Layout.{has, fixed_len}
+use Rattle.perf_sample.specs.Layout.{LayoutWords, has, fixed_len}
+use Rattle.perf_sample.specs.declared.flags.TheConstants.{FIRST_RESERVED, BRANCH_SIZE, PERF_RECORD_SAMPLE}
 use Rattle.perf_sample.specs.declared.faults.Place.{Place}
 use Rattle.perf_sample.specs.declared.faults.Place.TheVariants as place
 use Rattle.perf_sample.specs.declared.faults.SampleFault.{SampleFault}
@@ -13,10 +14,10 @@ use Rattle.perf_sample.specs.declared.faults.SampleFault.TheVariants as fault
 unfoldable pub number_at : ℕ → ℕ → List ℕ → ℕ
 number_at at k bytes = little_number k (drop at bytes)
 
--- F + 24 * k for a k from 0 to 256, with F the length of a sample without branches
-abbrev pub is_size : ℕ → ℕ → Bool
+-- F + BRANCH_SIZE * k for a k from 0 to 256, with F the length of a sample without branches
+abbrev pub is_size : LayoutWords → ℕ → Bool
 is_size layout size =
-    nat_le (fixed_len layout) size && nat_le size (fixed_len layout + 24 * 256) && nat_eq ((size - fixed_len layout) % 24) 0
+    nat_le (fixed_len layout) size && nat_le size (fixed_len layout + BRANCH_SIZE * 256) && nat_eq ((size - fixed_len layout) % BRANCH_SIZE) 0
 
 -- a field of the header's sample, or the header itself
 pub data Field : Type 0 where
@@ -30,7 +31,7 @@ rows =
     ∷ (9, place.StreamId) ∷ (7, place.Cpu) ∷ (8, place.Period) ∷ []
 
 -- the field of a row, where the layout has it
-abbrev pub row_fields : ℕ → ℕ × Place → List Field
+abbrev pub row_fields : LayoutWords → ℕ × Place → List Field
 row_fields layout row = if has layout row.0 then At row.1 ∷ [] else []
 
 -- from, to and flags of so many branches, from this number on
@@ -39,7 +40,7 @@ branch_fields i zero = []
 branch_fields i (suc n) = At (place.From i) ∷ At (place.To i) ∷ At (place.Flags i) ∷ branch_fields (suc i) n
 
 -- the fields of a sample with so many branches, in their order
-unfoldable pub fields_of : ℕ → ℕ → List Field
+unfoldable pub fields_of : LayoutWords → ℕ → List Field
 fields_of layout nr = Header ∷ flat_map (row_fields layout) rows ++ At place.Nr ∷ branch_fields 0 nr
 
 -- the fault where the bytes end in a field or in its place
@@ -52,18 +53,18 @@ unless true f next = next
 unless false f next = Some f
 
 -- the fault of a field's value, which stands at the front of the bytes: a sample of this size in its header
-abbrev pub wrong_in : ℕ → ℕ → Field → List ℕ → Option SampleFault
+abbrev pub wrong_in : LayoutWords → ℕ → Field → List ℕ → Option SampleFault
 wrong_in layout size Header bytes =
-    unless (nat_eq (number_at 0 4 bytes) 9) fault.Kind (unless (is_size layout (number_at 6 2 bytes)) fault.Size None)
+    unless (nat_eq (number_at 0 4 bytes) PERF_RECORD_SAMPLE) fault.Kind (unless (is_size layout (number_at 6 2 bytes)) fault.Size None)
 wrong_in layout size (At place.Cpu) bytes = unless (nat_eq (number_at 4 4 bytes) 0) fault.CpuReserved None
 wrong_in layout size (At place.Nr) bytes =
     unless (nat_le (number_at 0 8 bytes) 256) fault.Count
-    (unless (nat_eq size (fixed_len layout + 24 * number_at 0 8 bytes)) fault.Size None)
-wrong_in layout size (At (place.Flags i)) bytes = unless (nat_lt (number_at 0 8 bytes) (2 ^ 33)) (fault.FlagReserved i) None
+    (unless (nat_eq size (fixed_len layout + BRANCH_SIZE * number_at 0 8 bytes)) fault.Size None)
+wrong_in layout size (At (place.Flags i)) bytes = unless (nat_lt (number_at 0 8 bytes) FIRST_RESERVED) (fault.FlagReserved i) None
 wrong_in layout size (At p) bytes = None
 
 -- the fault of a field at the front of the bytes, if it is broken
-abbrev pub fault_in : ℕ → ℕ → Field → List ℕ → Option SampleFault
+abbrev pub fault_in : LayoutWords → ℕ → Field → List ℕ → Option SampleFault
 fault_in layout size field bytes = if nat_lt (length bytes) 8 then Some (cut_in field) else wrong_in layout size field bytes
 
 abbrev pub or_on : Option SampleFault → List ℕ → Option (SampleFault × List ℕ) → Option (SampleFault × List ℕ)
@@ -71,17 +72,17 @@ or_on (Some f) rest next = Some (f, rest)
 or_on None rest next = next
 
 -- the first of these fields that is broken: its fault, and what follows it
-unfoldable pub first_of : ℕ → ℕ → List Field → List ℕ → Option (SampleFault × List ℕ)
+unfoldable pub first_of : LayoutWords → ℕ → List Field → List ℕ → Option (SampleFault × List ℕ)
 first_of layout size [] bytes = None
 first_of layout size (field ∷ fields) bytes =
     or_on (fault_in layout size field bytes) (drop 8 bytes) (first_of layout size fields (drop 8 bytes))
 
 -- the same of all fields of a sample. The header tells the size, and the last field before the branches how many they are
-unfoldable pub first_break : ℕ → List ℕ → Option (SampleFault × List ℕ)
+unfoldable pub first_break : LayoutWords → List ℕ → Option (SampleFault × List ℕ)
 first_break layout bytes =
     first_of layout (number_at 6 2 bytes) (fields_of layout (number_at (fixed_len layout - 8) 8 bytes)) bytes
 
 -- the bytes break the layout with this fault; the rest follows the broken field
-pub record Breaks (layout : ℕ) (bytes : List ℕ) (f : SampleFault) (rest : List ℕ) : Type 0 where
+pub record Breaks (layout : LayoutWords) (bytes : List ℕ) (f : SampleFault) (rest : List ℕ) : Type 0 where
   pub some : bytes ≢ []
   pub first : first_break layout bytes ≡ Some (f, rest)

@@ -5,9 +5,10 @@ use Rattle.perf_sample.specs.declared.faults.SampleFault.{SampleFault}
 use Rattle.perf_sample.specs.Spelling.{Spells}
 use Rattle.perf_sample.specs.Breaks.{Breaks}
 use Rattle.perf_sample.specs.Range.{IsSample}
+use Rattle.perf_sample.specs.Layout.{LayoutWords}
 
 -- the bytes begin with the spelling of one sample whose numbers lie in the widths of their fields, and with no other spelling
-pub record IsSpelled (layout : ℕ) (bytes : List ℕ) : Type 0 where
+pub record IsSpelled (layout : LayoutWords) (bytes : List ℕ) : Type 0 where
   pub sample : Sample
   pub spelled : List ℕ
   pub rest : List ℕ
@@ -17,7 +18,7 @@ pub record IsSpelled (layout : ℕ) (bytes : List ℕ) : Type 0 where
   pub alone : (s : Sample) (x z : List ℕ) → Spells layout s x → bytes ≡ x ++ z → (x ≡ spelled) × (IsSample s → s ≡ sample)
 
 -- the bytes break the layout with one fault, at one field
-pub record IsBroken (layout : ℕ) (bytes : List ℕ) : Type 0 where
+pub record IsBroken (layout : LayoutWords) (bytes : List ℕ) : Type 0 where
   pub fault : SampleFault
   pub rest : List ℕ
   pub breaks : Breaks layout bytes fault rest

@@ -1,7 +1,17 @@
 -- Which fields a sample has (perf_event.h, sample_type), and which samples a layout can hold.
 use Rattle.std.specs.Prelude.{◌≡◌, ℕ, ◌+◌, ◌/◌, ◌%◌, ◌^◌, ◌<◌, Bool, true, false, not, ◌&&◌, if◌then◌else◌, nat_eq, bit_and, List, All}
+use Rattle.perf_sample.specs.declared.flags.TheConstants.{FIRST_RESERVED}
 use Rattle.perf_sample.specs.declared.sample.Branch.{Branch}
 use Rattle.perf_sample.specs.declared.sample.Sample.{Sample}
+
+-- the words of perf_event_attr that lay out a sample: sample_type, and branch_sample_type as far as it is known here
+pub record LayoutWords : Type 0 where
+  pub sample_type : ℕ
+  pub branch : ℕ
+
+-- the branch word is 0
+abbrev pub of_sample_type : ℕ → LayoutWords
+of_sample_type bits = record { sample_type = bits; branch = 0 }
 
 -- no bit but those of the ten fields that are known here, and the branch stack among them
 abbrev pub is_layout : ℕ → Bool
@@ -11,32 +21,32 @@ abbrev pub IsLayout : ℕ → Type 0
 IsLayout bits = is_layout bits ≡ true
 
 -- whether the layout has the field of the bit 2 ^ place
-abbrev pub has : ℕ → ℕ → Bool
-has layout place = nat_eq (layout / 2 ^ place % 2) 1
+abbrev pub has : LayoutWords → ℕ → Bool
+has layout place = nat_eq (layout.sample_type / 2 ^ place % 2) 1
 
-abbrev pub width : ℕ → ℕ → ℕ
+abbrev pub width : LayoutWords → ℕ → ℕ
 width layout place = if has layout place then 8 else 0
 
 -- how many bytes the fields between the header and the number of branches have
-unfoldable pub fields_len : ℕ → ℕ
+unfoldable pub fields_len : LayoutWords → ℕ
 fields_len layout =
     width layout 16 + width layout 0 + width layout 1 + width layout 2 + width layout 3 + width layout 6
     + width layout 9 + width layout 7 + width layout 8
 
 -- the length of a sample without branches: the header, those fields, and the number of branches
-unfoldable pub fixed_len : ℕ → ℕ
+unfoldable pub fixed_len : LayoutWords → ℕ
 fixed_len layout = 16 + fields_len layout
 
 -- a field that is left out is 0
-abbrev pub LeftOut : ℕ → ℕ → ℕ → Type 0
+abbrev pub LeftOut : LayoutWords → ℕ → ℕ → Type 0
 LeftOut layout place value = has layout place ≡ false → value ≡ 0
 
 -- no reserved flag: those are the bits from 33 up
 abbrev pub FlagsFit : List Branch → Type 0
-FlagsFit branches = All (λ b. b.flags < 2 ^ 33) branches
+FlagsFit branches = All (λ b. b.flags < FIRST_RESERVED) branches
 
 -- the layout can hold the sample
-pub record Fits (layout : ℕ) (sample : Sample) : Type 0 where
+pub record Fits (layout : LayoutWords) (sample : Sample) : Type 0 where
   pub identifier : LeftOut layout 16 sample.identifier
   pub ip : LeftOut layout 0 sample.ip
   pub pid : LeftOut layout 1 sample.pid

@@ -5,6 +5,8 @@ pub mod Reading
 pub mod Rows
 pub mod BranchRange
 pub mod Range
+pub mod Blank
 pub mod Cases
 pub mod Reader
 pub mod PerfType
+pub mod Flags

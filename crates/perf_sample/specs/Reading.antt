@@ -1,12 +1,13 @@
 -- What reading a field does to the bytes that a source has left, and how reading stops.
-use Rattle.std.specs.Prelude.{◌≡◌, ◌⊎◌, ℕ, ◌+◌, ◌*◌, ◌<◌, ◌≤◌, ◌^◌, Bool, true, false, if◌then◌else◌, nat_lt, List, [], ◌∷◌, ◌++◌, length, drop, Option, Some, None, Result, Ok, Err}
+use Rattle.std.specs.Prelude.{◌≡◌, ◌⊎◌, ℕ, ◌+◌, ◌*◌, ◌<◌, ◌≤◌, Bool, true, false, if◌then◌else◌, nat_lt, List, [], ◌∷◌, ◌++◌, length, drop, Option, Some, None, Result, Ok, Err}
 use Rattle.std.specs.List.{flat_map}
 use Rattle.std.specs.Io.KnownBytes.{Consumes, IsAtEnd}
 use Rattle.ctr_port.specs.InHand.{Of}
 use Rattle.perf_sample.specs.declared.sample.Branch.{Branch}
 use Rattle.perf_sample.specs.declared.sample.Sample.{Sample}
 use Rattle.perf_sample.specs.declared.header.Header.{Header}
-use Rattle.perf_sample.specs.Layout.{fixed_len, FlagsFit}
+use Rattle.perf_sample.specs.Layout.{LayoutWords, fixed_len, FlagsFit}
+use Rattle.perf_sample.specs.declared.flags.TheConstants.{FIRST_RESERVED, BRANCH_SIZE, PERF_RECORD_SAMPLE}
 use Rattle.perf_sample.specs.Spelling.{le, branch_bytes, Spells}
 use Rattle.perf_sample.specs.Breaks.{Field, At, is_size, branch_fields, cut_in, first_of, Breaks}
 use Rattle.perf_sample.specs.declared.faults.Place.{Place}
@@ -68,44 +69,44 @@ TakesNumber p left left' (Err f) = Stopped (cut_at (At p)) left left' f
 
 -- a branch was taken, or one of its fields is the first that is broken
 abbrev pub TakesBranch : ℕ → Option (List ℕ) → Option (List ℕ) → Result Branch SampleFault → Type 0
-TakesBranch i left left' (Ok b) = Consumes left left' (branch_bytes b) × (b.flags < 2 ^ 33)
-TakesBranch i left left' (Err f) = (layout size : ℕ) → Stopped (first_of layout size (branch_fields i 1)) left left' f
+TakesBranch i left left' (Ok b) = Consumes left left' (branch_bytes b) × (b.flags < FIRST_RESERVED)
+TakesBranch i left left' (Err f) = (layout : LayoutWords) (size : ℕ) → Stopped (first_of layout size (branch_fields i 1)) left left' f
 
 -- so many branches were taken
 abbrev pub TakesBranches : ℕ → Option (List ℕ) → Option (List ℕ) → Result (List Branch) SampleFault → Type 0
 TakesBranches nr left left' (Ok branches) = Consumes left left' (flat_map branch_bytes branches) × (length branches ≡ nr) × FlagsFit branches
-TakesBranches nr left left' (Err f) = (layout size : ℕ) → Stopped (first_of layout size (branch_fields 0 nr)) left left' f
+TakesBranches nr left left' (Err f) = (layout : LayoutWords) (size : ℕ) → Stopped (first_of layout size (branch_fields 0 nr)) left left' f
 
 -- the number of branches was taken, and the size in the header agrees with it
-abbrev pub TakesNr : ℕ → ℕ → Option (List ℕ) → Option (List ℕ) → Result ℕ SampleFault → Type 0
-TakesNr layout size left left' (Ok nr) = Consumes left left' (le 8 nr) × (nr ≤ 256) × (size ≡ fixed_len layout + 24 * nr)
+abbrev pub TakesNr : LayoutWords → ℕ → Option (List ℕ) → Option (List ℕ) → Result ℕ SampleFault → Type 0
+TakesNr layout size left left' (Ok nr) = Consumes left left' (le 8 nr) × (nr ≤ 256) × (size ≡ fixed_len layout + BRANCH_SIZE * nr)
 TakesNr layout size left left' (Err f) = Stopped (first_of layout size (At place.Nr ∷ [])) left left' f
 
 -- the bytes of a header
 abbrev pub header_bytes : ℕ → ℕ → List ℕ
-header_bytes misc size = le 4 9 ++ le 2 misc ++ le 2 size
+header_bytes misc size = le 4 PERF_RECORD_SAMPLE ++ le 2 misc ++ le 2 size
 
 -- bytes that a failed read cut off: none, or those of a field that is cut short, and of the fields before it
-abbrev pub IsPartial : ℕ → List ℕ → Type 0
+abbrev pub IsPartial : LayoutWords → List ℕ → Type 0
 IsPartial layout bytes = (bytes ≡ []) ⊎ ((f : SampleFault) × (is_short f ≡ true) × Breaks layout bytes f [])
 
-abbrev pub BrokeBy : Cause → ℕ → Option (List ℕ) → Option (List ℕ) → SampleFault → Type 0
+abbrev pub BrokeBy : Cause → LayoutWords → Option (List ℕ) → Option (List ℕ) → SampleFault → Type 0
 BrokeBy OfRead layout left left' f = (x : List ℕ) × Consumes left left' x × IsPartial layout x
 BrokeBy OfCount layout left left' f = ⊥
 BrokeBy OfBytes layout left left' f = Of left left' (λ t t'. Breaks layout t f t')
 
 -- a sample broke at the first broken field, and the bytes up to its end were taken; or a read failed in a field
-abbrev pub Broke : ℕ → Option (List ℕ) → Option (List ℕ) → SampleFault → Type 0
+abbrev pub Broke : LayoutWords → Option (List ℕ) → Option (List ℕ) → SampleFault → Type 0
 Broke layout left left' f = BrokeBy (cause_of f) layout left left' f
 
 -- a header was taken, or there is none
-abbrev pub TakesHeader : ℕ → Option (List ℕ) → Option (List ℕ) → Result (Option Header) SampleFault → Type 0
+abbrev pub TakesHeader : LayoutWords → Option (List ℕ) → Option (List ℕ) → Result (Option Header) SampleFault → Type 0
 TakesHeader layout left left' (Ok None) = Of left left' (λ t t'. (t ≡ []) × (t' ≡ []))
 TakesHeader layout left left' (Ok (Some h)) = Consumes left left' (header_bytes h.misc h.size) × (is_size layout h.size ≡ true)
 TakesHeader layout left left' (Err f) = Broke layout left left' f
 
 -- a sample was taken, or there is none
-abbrev pub TakesSample : ℕ → Option (List ℕ) → Option (List ℕ) → Result (Option Sample) SampleFault → Type 0
+abbrev pub TakesSample : LayoutWords → Option (List ℕ) → Option (List ℕ) → Result (Option Sample) SampleFault → Type 0
 TakesSample layout left left' (Ok None) = Of left left' (λ t t'. (t ≡ []) × (t' ≡ []))
 TakesSample layout left left' (Ok (Some s)) = (x : List ℕ) × Spells layout s x × Consumes left left' x
 TakesSample layout left left' (Err f) = Broke layout left left' f

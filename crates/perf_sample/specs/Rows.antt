@@ -7,7 +7,7 @@ use Rattle.perf_sample.specs.declared.faults.Place.{Place}
 use Rattle.perf_sample.specs.declared.faults.Place.TheVariants as place
 use Rattle.perf_sample.specs.declared.faults.SampleFault.{SampleFault}
 use Rattle.perf_sample.specs.declared.faults.SampleFault.TheVariants as fault
-use Rattle.perf_sample.specs.Layout.{Fits}
+use Rattle.perf_sample.specs.Layout.{LayoutWords, Fits}
 use Rattle.perf_sample.specs.Spelling.{le, fields}
 use Rattle.perf_sample.specs.Breaks.{At, rows, row_fields, first_of}
 use Rattle.perf_sample.specs.Reading.{Stopped}
@@ -55,10 +55,10 @@ PutsIn p bytes old new (Err f) =
 -- a field of the table was taken
 abbrev pub TakesRow : Place → Option (List ℕ) → Option (List ℕ) → Sample → Sample → Result (Unit {0}) SampleFault → Type 0
 TakesRow p left left' old new (Ok _) = (bytes : List ℕ) × Consumes left left' bytes × Holds p bytes new × SetsOnly p old new
-TakesRow p left left' old new (Err f) = (layout size : ℕ) → Stopped (first_of layout size (At p ∷ [])) left left' f
+TakesRow p left left' old new (Err f) = (layout : LayoutWords) (size : ℕ) → Stopped (first_of layout size (At p ∷ [])) left left' f
 
 -- the fields that the layout has were taken, and nothing else of the sample changed
-abbrev pub TakesRows : ℕ → Option (List ℕ) → Option (List ℕ) → Sample → Sample → Result (Unit {0}) SampleFault → Type 0
+abbrev pub TakesRows : LayoutWords → Option (List ℕ) → Option (List ℕ) → Sample → Sample → Result (Unit {0}) SampleFault → Type 0
 TakesRows layout left left' old new (Ok _) =
     Consumes left left' (fields layout new) × Fits layout new × (new.misc ≡ old.misc) × (new.branches ≡ old.branches)
 TakesRows layout left left' old new (Err f) = (size : ℕ) → Stopped (first_of layout size (flat_map (row_fields layout) rows)) left left' f

@@ -8,6 +8,7 @@ ghost use Rattle.perf_sample.specs.Reading.{TakesPlace, TakesNumber, TakesBranch
 use crate::branches::Branches;
 use crate::faults::{Place, SampleFault};
 use crate::fields::{Stop, read_field};
+use crate::flags::{BRANCH_SIZE, FIRST_RESERVED};
 use crate::layout::Layout;
 use crate::numbers::number;
 use crate::sample::Branch;
@@ -48,7 +49,7 @@ pub(crate) fn read_branch<S: Source>(source: &mut S, number: u16) -> Result<Bran
     let from = read_number(source, Place::From(number))?;
     let to = read_number(source, Place::To(number))?;
     let flags = read_number(source, Place::Flags(number))?;
-    if flags >> 33 != 0 {
+    if flags >= FIRST_RESERVED {
         return Err(SampleFault::FlagReserved(number));
     }
     Ok(Branch { from, to, flags })
@@ -85,7 +86,7 @@ pub(crate) fn read_nr<S: Source>(
         return Err(SampleFault::Count);
     }
     let nr = nr as u16;
-    if size != layout.fixed_len() + 24 * nr {
+    if size != layout.fixed_len() + BRANCH_SIZE * nr {
         return Err(SampleFault::Size);
     }
     Ok(nr)

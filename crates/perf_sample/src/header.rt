@@ -6,12 +6,10 @@ ghost use Rattle.perf_sample.specs.Reading.{TakesHeader};
 
 use crate::faults::SampleFault;
 use crate::fields::{Stop, read_field};
+use crate::flags::PERF_RECORD_SAMPLE;
 use crate::layout::Layout;
 use crate::numbers::header;
 use ctr_port::Source;
-
-/// The type of the record of a sample (`perf_event.h`, enum perf_event_type).
-const PERF_RECORD_SAMPLE: u32 = 9;
 
 /// What the header of a sample says beside its type.
 #[derive(Clone, Copy)]

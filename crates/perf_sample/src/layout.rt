@@ -1,9 +1,10 @@
 //! Which fields a sample has.
 
 ghost use Rattle.std.specs.Prelude.{◌≡◌, ◌≤◌, ◌<◌, IsTrue, IsNone, IfSome, ◌↔◌};
-ghost use Rattle.perf_sample.specs.Layout.{IsLayout, has, width, fixed_len, LeftOut, FlagsFit, Fits};
+ghost use Rattle.perf_sample.specs.Layout.{IsLayout, of_sample_type, has, width, fixed_len, LeftOut, FlagsFit, Fits};
 ghost use Rattle.perf_sample.specs.Breaks.{is_size};
 
+use crate::flags::{BRANCH_SIZE, FIRST_RESERVED};
 use crate::sample::{Branch, Sample};
 use std::marker::Model;
 
@@ -32,33 +33,33 @@ const KNOWN: u64 = 0x10BCF;
 /// PERF_SAMPLE_BRANCH_STACK, which every layout has.
 const BRANCH_STACK: u64 = 0x800;
 
-/// Which fields a sample has, as the word sample_type of `perf_event.h`. Contracts see that word.
+/// Which fields a sample has, as the words of `perf_event.h`, struct perf_event_attr. Contracts see these words.
 #[derive(Clone, Copy, Debug, PartialEq, Eq)]
 pub struct Layout {
     bits: u64,
+    branch: u64,
 }
 
 impl Model for Layout {
-    ghost use Rattle.std.specs.Prelude.{ℕ};
-    ghost use Rattle.perf_sample.specs.Layout.{IsLayout};
+    ghost use Rattle.perf_sample.specs.Layout.{LayoutWords, IsLayout};
 
-    ghost Value = { ℕ };
+    ghost Value = { LayoutWords };
 
-    ghost view = { λ l. l.bits };
+    ghost view = { λ l. record { sample_type = l.bits; branch = l.branch } };
 
     ghost invariant = { λ l. IsLayout l.bits };
 
-    ghost inverse = { λ n. record { bits = n } };
+    ghost inverse = { λ words. record { bits = words.sample_type; branch = words.branch } };
 }
 
 impl Layout {
     /// The layout with these bits, where each of them is a field that is known here, and the branch stack is among them.
     pub fn of(bits: u64) -> Option<Layout>
-        ensures some { IfSome result (λ layout. layout ≡ bits) }
+        ensures some { IfSome result (λ layout. layout ≡ of_sample_type bits) }
         ensures none { IsNone result ↔ (IsLayout bits → ⊥) }
     {
         if bits & KNOWN == bits && bits & BRANCH_STACK != 0 {
-            Some(Layout { bits })
+            Some(Layout { bits, branch: 0 })
         } else {
             None
         }
@@ -66,8 +67,8 @@ impl Layout {
 
     /// The word sample_type.
     pub fn bits(self) -> u64
-        ensures bits { result ≡ self }
-        ensures known { IsLayout self }
+        ensures bits { result ≡ self.sample_type }
+        ensures known { IsLayout self.sample_type }
     {
         self.bits
     }
@@ -111,7 +112,7 @@ impl Layout {
         ensures { result ≡ is_size self size }
     {
         let fixed = self.fixed_len();
-        size >= fixed && size <= fixed + 24 * 256 && (size - fixed) % 24 == 0
+        size >= fixed && size <= fixed + BRANCH_SIZE * 256 && (size - fixed) % BRANCH_SIZE == 0
     }
 
     // Whether a field has the value that the layout lets it have: any where it is there, 0 where it is left out.
@@ -144,5 +145,5 @@ impl Layout {
 fn flags_fit(branches: &[Branch]) -> bool
     ensures { IsTrue result ↔ FlagsFit branches.now }
 {
-    branches.iter().all(|branch| branch.flags < 1 << 33)
+    branches.iter().all(|branch| branch.flags < FIRST_RESERVED)
 }

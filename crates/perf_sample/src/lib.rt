@@ -8,6 +8,7 @@ mod branch;
 mod branches;
 mod faults;
 mod fields;
+mod flags;
 mod header;
 mod laws;
 mod layout;
@@ -21,6 +22,10 @@ mod writing;
 
 pub use branches::Branches;
 pub use faults::{Place, SampleFault};
+pub use flags::{
+    BRANCH_SIZE, FIRST_RESERVED, MISC_GUEST_KERNEL, MISC_GUEST_USER, MISC_HYPERVISOR, MISC_KERNEL,
+    MISC_USER, MISPRED, PERF_RECORD_SAMPLE, PREDICTED, TYPE,
+};
 pub use laws::{no_proper_prefix, one_of_three};
 pub use layout::Layout;
 pub use perf_types::perf_type;

@@ -2,6 +2,7 @@
 
 ghost use Rattle.std.specs.Prelude.{◌≡◌, ℕ, ◌≤◌, ◌<◌, List, [], ◌∷◌, ◌++◌, Some, None, length, IfOk, IfSome};
 ghost use Rattle.ctr_port.specs.Counts.{Rose};
+ghost use Rattle.perf_sample.specs.Layout.{LayoutWords};
 ghost use Rattle.perf_sample.specs.Spelling.{spelling, Spells};
 ghost use Rattle.perf_sample.specs.Breaks.{Breaks};
 ghost use Rattle.perf_sample.specs.declared.sample.Sample.{Sample};
@@ -10,6 +11,7 @@ ghost use Rattle.perf_sample.specs.Range.{IsSample};
 ghost use Rattle.perf_sample.specs.Reader.{fresh, most, Nexted, after, Answers};
 
 use crate::faults::SampleFault;
+use crate::flags::BRANCH_SIZE;
 use crate::layout::Layout;
 use crate::sample::Sample;
 use crate::whole::read_sample;
@@ -46,12 +48,12 @@ fn length_of(layout: Layout, sample: &Sample) -> u64
     ensures len { result ≡ length (spelling layout sample.now) }
     ensures most { result ≤ 6232 }
 {
-    layout.fixed_len() as u64 + 24 * sample.branches.items().len() as u64
+    layout.fixed_len() as u64 + BRANCH_SIZE as u64 * sample.branches.items().len() as u64
 }
 
 // Looks for a byte behind the last sample that is given.
 fn look_past<S: Source>(source: &mut S) -> Result<Option<Sample>, SampleFault>
-    ensures nexted { (layout : ℕ) → Nexted layout most (S.left source.old) (S.left source.new) result }
+    ensures nexted { (layout : LayoutWords) → Nexted layout most (S.left source.old) (S.left source.new) result }
     ensures none { IfOk result (λ next. next ≡ None) }
     ensures later { S.faults source.old ≤ S.faults source.new }
     ensures cause { result ≡ Err SampleFault.ReadFault → Rose (S.faults source.old) (S.faults source.new) }

@@ -1,5 +1,8 @@
 //! What a sample holds.
 
+ghost use Rattle.std.specs.Prelude.{◌≡◌};
+ghost use Rattle.perf_sample.specs.Blank.{blank};
+
 use crate::branches::Branches;
 
 /// One entry of a branch stack (`perf_event.h`, struct perf_branch_entry).
@@ -41,4 +44,26 @@ pub struct Sample {
     pub period: u64,
     /// The branch stack, youngest first.
     pub branches: Branches,
+}
+
+impl Sample {
+    /// The sample whose numbers are 0, without branches. Whoever makes a sample fills in the fields that it means.
+    pub fn blank() -> Sample
+        ensures { result ≡ blank }
+    {
+        Sample {
+            misc: 0,
+            identifier: 0,
+            ip: 0,
+            pid: 0,
+            tid: 0,
+            time: 0,
+            addr: 0,
+            id: 0,
+            stream_id: 0,
+            cpu: 0,
+            period: 0,
+            branches: Branches::new(),
+        }
+    }
 }

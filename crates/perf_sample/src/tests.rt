@@ -39,20 +39,12 @@ pub(crate) const EVERY_FIELD: [u8; 112] = [
 fn plain() -> Sample
     ensures { result.branches ≡ [] }
 {
-    Sample {
-        misc: 3,
-        identifier: 0,
-        ip: 0x8000_0008,
-        pid: 1,
-        tid: 1,
-        time: 0,
-        addr: 0,
-        id: 0,
-        stream_id: 0,
-        cpu: 0,
-        period: 0,
-        branches: Branches::new(),
-    }
+    let mut sample = Sample::blank();
+    sample.misc = MISC_HYPERVISOR;
+    sample.ip = 0x8000_0008;
+    sample.pid = 1;
+    sample.tid = 1;
+    sample
 }
 
 pub(crate) fn written(layout: Layout, sample: &Sample) -> Result<Buffer, Fail> {
@@ -210,5 +202,47 @@ fn each_transfer_type_has_its_perf_type(rt: HostRuntime) {
     ];
     for kind in 0..16u8 {
         assert_eq!(rt; perf_type(kind), wants[kind as usize], "at {kind}");
+    }
+}
+
+#[test]
+fn predicted_transfers_have_mispred_or_predicted(rt: HostRuntime) {
+    // The flags of a transfer that was predicted rightly, and of one that was mispredicted.
+    let table = [
+        (0x0, 0x0), // no type
+        (0x70_0000, 0x70_0000), // exception
+        (0xC0_0000, 0xC0_0000), // interrupt
+        (0xB0_0000, 0xB0_0000), // trap return
+        (0x10_0002, 0x10_0001), // branch not taken
+        (0x10_0002, 0x10_0001), // branch taken
+        (0x0, 0x0), // no type
+        (0x0, 0x0), // no type
+        (0x50_0002, 0x50_0001), // indirect call
+        (0x40_0000, 0x40_0000), // direct call
+        (0x30_0002, 0x30_0001), // indirect jump
+        (0x20_0000, 0x20_0000), // direct jump
+        (0x50_0002, 0x50_0001), // co-routine swap
+        (0x60_0002, 0x60_0001), // return
+        (0x30_0002, 0x30_0001), // other indirect jump with linkage
+        (0x20_0000, 0x20_0000), // other direct jump with linkage
+    ];
+    for kind in 0..16u8 {
+        let (rightly, wrongly) = table[kind as usize];
+        let mut branch = Branch {
+            from: 0x8000_0000,
+            to: 0x8000_0008,
+            flags: rightly,
+        };
+        assert_eq!(rt;
+            Branch::of_transfer(0x8000_0000, 0x8000_0008, kind, false),
+            branch,
+            "at {kind}"
+        );
+        branch.flags = wrongly;
+        assert_eq!(rt;
+            Branch::of_transfer(0x8000_0000, 0x8000_0008, kind, true),
+            branch,
+            "at {kind}"
+        );
     }
 }

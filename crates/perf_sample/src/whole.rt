@@ -6,7 +6,6 @@ ghost use Rattle.perf_sample.specs.Range.{IsSample};
 ghost use Rattle.perf_sample.specs.Reading.{TakesSample};
 
 use crate::branch::{read_branches, read_nr};
-use crate::branches::Branches;
 use crate::faults::SampleFault;
 use crate::header::read_header;
 use crate::layout::Layout;
@@ -28,20 +27,8 @@ pub(crate) fn read_sample<S: Source>(
         Some(header) => header,
         None => return Ok(None),
     };
-    let mut sample = Sample {
-        misc: header.misc,
-        identifier: 0,
-        ip: 0,
-        pid: 0,
-        tid: 0,
-        time: 0,
-        addr: 0,
-        id: 0,
-        stream_id: 0,
-        cpu: 0,
-        period: 0,
-        branches: Branches::new(),
-    };
+    let mut sample = Sample::blank();
+    sample.misc = header.misc;
     read_rows(source, layout, &mut sample)?;
     let nr = read_nr(source, layout, header.size)?;
     sample.branches = read_branches(source, nr)?;

@@ -8,6 +8,7 @@ ghost use Rattle.perf_sample.specs.BranchRange.{IsBranch};
 ghost use Rattle.perf_sample.specs.Range.{IsSample};
 ghost use Rattle.perf_sample.specs.Spelling.{le, present, fields, branch_bytes, Spells};
 
+use crate::flags::{BRANCH_SIZE, PERF_RECORD_SAMPLE};
 use crate::layout::{ADDR, CPU, ID, IDENTIFIER, IP, Layout, PERIOD, STREAM_ID, TID, TIME};
 use crate::sample::{Branch, Sample};
 use arrayvec::ArrayVec;
@@ -110,7 +111,7 @@ fn put_branches(out: &mut Buffer, branches: &[Branch])
     requires few { length branches.now ≤ 256 }
     requires room { array_vec_len out.old ≤ 88 }
     ensures items { out.new.items ≡ out.old.items ++ flat_map branch_bytes branches.now }
-    ensures len { array_vec_len out.new ≡ array_vec_len out.old + 24 * length branches.now }
+    ensures len { array_vec_len out.new ≡ array_vec_len out.old + BRANCH_SIZE * length branches.now }
 {
     for branch in branches {
         put_u64(out, branch.from);
@@ -130,15 +131,18 @@ pub fn encode(layout: Layout, sample: &Sample, out: &mut ArrayVec<u8, 9216>)
     requires { Fits layout sample.now }
     ensures spells { Spells layout sample.now out.new.items }
     // The field size of the header tells the truth.
-    ensures size { length out.new.items ≡ fixed_len layout + 24 * length sample.now.branches }
+    ensures size { length out.new.items ≡ fixed_len layout + BRANCH_SIZE * length sample.now.branches }
     // The numbers of the sample lie in the widths of their fields, so it is the one sample with these bytes.
     ensures range { IsSample sample.now }
 {
     let branches = sample.branches.items();
     out.clear();
-    put_u32(out, 9);
+    put_u32(out, PERF_RECORD_SAMPLE);
     put_u16(out, sample.misc);
-    put_u16(out, layout.fixed_len() + 24 * branches.len() as u16);
+    put_u16(
+        out,
+        layout.fixed_len() + BRANCH_SIZE * branches.len() as u16,
+    );
     put_fields(out, layout, sample);
     put_u64(out, branches.len() as u64);
     put_branches(out, branches);

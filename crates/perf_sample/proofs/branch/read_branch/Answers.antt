@@ -22,7 +22,7 @@ returns-in_err-flags-clause-takes g c =
     (flags_stop (g.S.Source.left c.args.source.now) (g.S.Source.left c.read_number.new.source) (g.S.Source.left c.read_number-2.new.source) (g.S.Source.left c.read_number-3.new.source)
     c.args.number c.in_ok-from.from c.in_ok-to.to c.in_err-flags.field-0.0 c.in_ok-from.ensures.takes c.in_ok-to.ensures.takes c.in_err-flags.ensures.takes)
 
-pub returns-then-flags-ne0-clause-takes : goal.returns-then-flags-ne0-clause-takes
-returns-then-flags-ne0-clause-takes g c =
+pub returns-then-flags-ge-FIRST_RESERVED-clause-takes : goal.returns-then-flags-ge-FIRST_RESERVED-clause-takes
+returns-then-flags-ge-FIRST_RESERVED-clause-takes g c =
     flags_wrong (g.S.Source.left c.args.source.now) (g.S.Source.left c.read_number.new.source) (g.S.Source.left c.read_number-2.new.source) (g.S.Source.left c.read_number-3.new.source)
-    c.args.number c.in_ok-from.from c.in_ok-to.to c.in_ok-flags.flags c.in_ok-from.ensures.takes c.in_ok-to.ensures.takes c.in_ok-flags.ensures.takes (search rules) (omega (arith, c.if-flags-ne0.true))
+    c.args.number c.in_ok-from.from c.in_ok-to.to c.in_ok-flags.flags c.in_ok-from.ensures.takes c.in_ok-to.ensures.takes c.in_ok-flags.ensures.takes (search rules) (omega (arith, c.if-flags-ge-FIRST_RESERVED.true))
