@@ -1,6 +1,7 @@
 -- Lone runs worked out by hand.
 use Rattle.std.specs.Prelude.{ℕ, List, [], ◌∷◌}
 use Rattle.ctr_csrs.specs.declared.depth.Depth.TheVariants.{D16}
+use Rattle.perf_sample.specs.Blank.{blank}
 use Rattle.perf_sample.specs.declared.sample.Sample.{Sample}
 use Rattle.rv_hart.specs.Task.{Task}
 
@@ -18,24 +19,17 @@ branch_image = 0x63 ∷ 0x04 ∷ 0x00 ∷ 0x00 ∷ []
 
 -- at 80000008, after the one branch from 80000000, with these flags
 abbrev pub one_branch : ℕ → Sample
-one_branch flags = record {
+one_branch flags = record blank {
   misc = 3;
-  identifier = 0;
   ip = 0x80000008;
   pid = 1;
   tid = 1;
-  time = 0;
-  addr = 0;
-  id = 0;
-  stream_id = 0;
-  cpu = 0;
-  period = 0;
   branches = record { from = 0x80000000; to = 0x80000008; flags = flags } ∷ [];
 }
 
--- a call is perf's type 4, a branch its type 1, in bits 20 to 23
+-- a call is perf's type 4 in bits 20 to 23; a branch is type 1, and a branch forward that is taken is mispred, bit 0
 abbrev pub call_sample : Sample
 call_sample = one_branch 0x400000
 
 abbrev pub branch_sample : Sample
-branch_sample = one_branch 0x100000
+branch_sample = one_branch 0x100001

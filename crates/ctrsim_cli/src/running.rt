@@ -30,7 +30,7 @@ fn prepare(hart: &mut Hart<Store>, form: &Form<'_>)
 fn run_task(hart: &mut Hart<Store>, mem: &mut TaskMem, form: &Form<'_>)
     requires none { hart.old.steps ≡ 0 }
     requires few { form.now.steps ≤ 1000000000 }
-    ensures state { machine_of hart.new mem.new ≡ after_steps (schedule_of form.now).task 0 form.now.steps (machine_of hart.old mem.old) }
+    ensures state { machine_of hart.new mem.new ≡ after_steps (schedule_of form.now).task.irqs 0 form.now.steps (machine_of hart.old mem.old) }
     ensures rest { hart.new ≡ record hart.old { core = hart.new.core; unit = hart.new.unit; steps = form.now.steps } }
 {
     let mut place = 0;

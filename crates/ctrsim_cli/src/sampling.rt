@@ -10,7 +10,10 @@ ghost use Rattle.ctrsim_cli.specs.Sample.{misc_of, branch_of, sample_at};
 use ctr_buffer::Slot;
 use ctr_csrs::Mode;
 use ctr_port::{Sink, WriteFault, write_whole};
-use perf_sample::{Branch, Branches, Buffer, Layout, Sample, encode, perf_type};
+use perf_sample::{
+    Branch, Branches, Buffer, Layout, MISC_GUEST_KERNEL, MISC_GUEST_USER, MISC_HYPERVISOR, MISC_KERNEL,
+    MISC_USER, Sample, encode,
+};
 use rv_hart::{Hart, Store};
 use task_switch::{Slots, read_stack};
 
@@ -19,11 +22,11 @@ fn misc(mode: Mode) -> u16
     ensures { result ≡ misc_of mode }
 {
     match mode {
-        Mode::M => 3,
-        Mode::S => 1,
-        Mode::U => 2,
-        Mode::Vs => 4,
-        Mode::Vu => 5,
+        Mode::M => MISC_HYPERVISOR,
+        Mode::S => MISC_KERNEL,
+        Mode::U => MISC_USER,
+        Mode::Vs => MISC_GUEST_KERNEL,
+        Mode::Vu => MISC_GUEST_USER,
     }
 }
 
@@ -32,11 +35,12 @@ fn branch(slot: Slot) -> Branch
     ensures value { result ≡ branch_of slot }
     ensures flags { result.flags < 2 ^ 33 }
 {
-    Branch {
-        from: slot.source - slot.source % 2,
-        to: slot.target,
-        flags: (1 << 20) * perf_type(slot.kind),
-    }
+    Branch::of_transfer(
+        slot.source_address(),
+        slot.target_address(),
+        slot.kind,
+        slot.is_mispredicted(),
+    )
 }
 
 // Entries as branches, in the same order.
@@ -59,20 +63,13 @@ pub fn sample(hart: &mut Hart<Store>) -> Sample
     ensures hart { hart.new ≡ record hart.old { accesses = hart.old.accesses + (3 + 4 * entries_of hart.old.unit.stack.depth) } }
 {
     let slots = read_stack(hart);
-    Sample {
-        misc: misc(hart.core().mode),
-        identifier: 0,
-        ip: hart.core().pc,
-        pid: 1,
-        tid: 1,
-        time: 0,
-        addr: 0,
-        id: 0,
-        stream_id: 0,
-        cpu: 0,
-        period: 0,
-        branches: branches(&slots),
-    }
+    let mut sample = Sample::blank();
+    sample.misc = misc(hart.core().mode);
+    sample.ip = hart.core().pc;
+    sample.pid = 1;
+    sample.tid = 1;
+    sample.branches = branches(&slots);
+    sample
 }
 
 /// Writes a sample.

@@ -4,6 +4,7 @@ use Rattle.std.specs.Prelude.{◌≡◌, IsTrue, ℕ, ◌*◌, ◌/◌, ◌%◌,
 use Rattle.std.specs.Option.{IfSome}
 use Rattle.ctr_csrs.specs.declared.mode.Mode.{Mode}
 use Rattle.ctr_csrs.specs.declared.mode.Mode.TheVariants as modes
+use Rattle.guest_modes.specs.declared.causes.TheConstants.{BREAKPOINT, ENVIRONMENT_CALL_FROM_M, ENVIRONMENT_CALL_FROM_S, ENVIRONMENT_CALL_FROM_U, ENVIRONMENT_CALL_FROM_VS, ILLEGAL_INSTRUCTION, INSTRUCTION_ADDRESS_MISALIGNED, LOAD_ACCESS_FAULT, LOAD_ADDRESS_MISALIGNED, STORE_ACCESS_FAULT, STORE_ADDRESS_MISALIGNED, VIRTUAL_INSTRUCTION}
 use Rattle.guest_modes.specs.declared.returning.Ret.TheVariants as rets
 use Rattle.guest_modes.specs.declared.targets.Trap.TheVariants.{Exception}
 use Rattle.guest_modes.specs.Traps.{is_cause}
@@ -71,53 +72,53 @@ goes_to jump target c bytes = record { core = c; bytes = bytes; outcome = Goes j
 -- a jump to a target, which must be a multiple of 4, with the address after the jump in rd
 abbrev pub jumps : Option Jump → ℕ → ℕ → CoreState → List ℕ → Effect
 jumps jump rd target c bytes =
-    cond (nat_eq (target % 4) 0) (goes_to jump target (put c rd (plus c.pc 4)) bytes) (raises 0 target c bytes)
+    cond (nat_eq (target % 4) 0) (goes_to jump target (put c rd (plus c.pc 4)) bytes) (raises INSTRUCTION_ADDRESS_MISALIGNED target c bytes)
 
 -- a branch that is taken, to a target that must be a multiple of 4, or one that isn't taken
 abbrev pub branches : Bool → Option Jump → ℕ → CoreState → List ℕ → Effect
-branches true jump target c bytes = cond (nat_eq (target % 4) 0) (goes_to jump target c bytes) (raises 0 target c bytes)
+branches true jump target c bytes = cond (nat_eq (target % 4) 0) (goes_to jump target c bytes) (raises INSTRUCTION_ADDRESS_MISALIGNED target c bytes)
 branches false jump target c bytes = goes_to jump (plus c.pc 4) c bytes
 
 -- a load from a place, if it is one
 abbrev pub loads_at : Option ℕ → Width → Bool → ℕ → ℕ → CoreState → List ℕ → Effect
 loads_at (Some at) width signed rd address c bytes = gives rd (loaded width signed bytes at) c bytes
-loads_at None width signed rd address c bytes = raises 5 address c bytes
+loads_at None width signed rd address c bytes = raises LOAD_ACCESS_FAULT address c bytes
 
 -- a load from an address, which must be a multiple of the width
 abbrev pub loads : Width → Bool → ℕ → ℕ → CoreState → List ℕ → Effect
 loads width signed rd address c bytes =
-    cond (nat_eq (address % bytes_of width) 0) (loads_at (place_of (length bytes) address (bytes_of width)) width signed rd address c bytes) (raises 4 address c bytes)
+    cond (nat_eq (address % bytes_of width) 0) (loads_at (place_of (length bytes) address (bytes_of width)) width signed rd address c bytes) (raises LOAD_ADDRESS_MISALIGNED address c bytes)
 
 -- a store to a place, if it is one
 abbrev pub stores_at : Option ℕ → Width → ℕ → ℕ → CoreState → List ℕ → Effect
 stores_at (Some at) width value address c bytes = goes_on c (stored width value bytes at)
-stores_at None width value address c bytes = raises 7 address c bytes
+stores_at None width value address c bytes = raises STORE_ACCESS_FAULT address c bytes
 
 -- a store to an address, which must be a multiple of the width
 abbrev pub stores : Width → ℕ → ℕ → CoreState → List ℕ → Effect
 stores width value address c bytes =
-    cond (nat_eq (address % bytes_of width) 0) (stores_at (place_of (length bytes) address (bytes_of width)) width value address c bytes) (raises 6 address c bytes)
+    cond (nat_eq (address % bytes_of width) 0) (stores_at (place_of (length bytes) address (bytes_of width)) width value address c bytes) (raises STORE_ADDRESS_MISALIGNED address c bytes)
 
 -- the exception of an environment call
 abbrev pub call_cause : Mode → ℕ
-call_cause modes.M = 11
-call_cause modes.S = 9
-call_cause modes.U = 8
-call_cause modes.Vs = 10
-call_cause modes.Vu = 8
+call_cause modes.M = ENVIRONMENT_CALL_FROM_M
+call_cause modes.S = ENVIRONMENT_CALL_FROM_S
+call_cause modes.U = ENVIRONMENT_CALL_FROM_U
+call_cause modes.Vs = ENVIRONMENT_CALL_FROM_VS
+call_cause modes.Vu = ENVIRONMENT_CALL_FROM_U
 
 -- MRET returns in M; elsewhere it is an illegal instruction
 abbrev pub machine_return : Mode → ℕ → Outcome
 machine_return modes.M word = Returns rets.Mret
-machine_return _ word = Raises 2 word
+machine_return _ word = Raises ILLEGAL_INSTRUCTION word
 
 -- SRET returns in M and S, and in VS within the guest; it is illegal in U, and a virtual instruction in VU
 abbrev pub supervisor_return : Mode → ℕ → Outcome
 supervisor_return modes.M word = Returns rets.SretHs
 supervisor_return modes.S word = Returns rets.SretHs
-supervisor_return modes.U word = Raises 2 word
+supervisor_return modes.U word = Raises ILLEGAL_INSTRUCTION word
 supervisor_return modes.Vs word = Returns rets.SretVs
-supervisor_return modes.Vu word = Raises 22 word
+supervisor_return modes.Vu word = Raises VIRTUAL_INSTRUCTION word
 
 -- the effect of an instruction, whose word is given too; FENCE, FENCE.I and WFI have none
 abbrev pub effect : Instr → ℕ → CoreState → List ℕ → Effect
@@ -133,7 +134,7 @@ effect (Store width rs1 rs2 off) word c bytes = stores width (reg c rs2) (plus (
 effect (AluImm op rd rs1 imm) word c bytes = gives rd (value op (reg c rs1) imm) c bytes
 effect (Alu op rd rs1 rs2) word c bytes = gives rd (value op (reg c rs1) (reg c rs2)) c bytes
 effect Ecall word c bytes = raises (call_cause c.mode) 0 c bytes
-effect Ebreak word c bytes = raises 3 0 c bytes
+effect Ebreak word c bytes = raises BREAKPOINT 0 c bytes
 effect Mret word c bytes = record { core = c; bytes = bytes; outcome = machine_return c.mode word }
 effect Sret word c bytes = record { core = c; bytes = bytes; outcome = supervisor_return c.mode word }
 effect _ word c bytes = goes_on c bytes

@@ -7,6 +7,7 @@ use Rattle.ctr_buffer.specs.declared.event.Event.{Event}
 use Rattle.ctr_buffer.specs.declared.event.Event.TheVariants as events
 use Rattle.ctr_buffer.specs.History.{after}
 use Rattle.ctr_rules.specs.declared.transfer.Transfer.{Transfer}
+use Rattle.guest_modes.specs.declared.causes.TheConstants.{BREAKPOINT, ILLEGAL_INSTRUCTION, INSTRUCTION_ACCESS_FAULT, LOCAL_COUNTER_OVERFLOW, VIRTUAL_INSTRUCTION}
 use Rattle.guest_modes.specs.declared.gating.CsrFault.{CsrFault}
 use Rattle.guest_modes.specs.declared.gating.CsrFault.TheVariants.{Illegal, Virtual}
 use Rattle.guest_modes.specs.declared.returning.Ret.{Ret}
@@ -63,12 +64,12 @@ type_of_trap (Exception cause) = types.Exception
 type_of_trap (Interrupt cause) = types.Interrupt
 
 abbrev pub is_breakpoint : Trap → Bool
-is_breakpoint (Exception cause) = nat_eq cause 3
+is_breakpoint (Exception cause) = nat_eq cause BREAKPOINT
 is_breakpoint (Interrupt cause) = false
 
 abbrev pub is_overflow : Trap → Bool
 is_overflow (Exception cause) = false
-is_overflow (Interrupt cause) = nat_eq cause 13
+is_overflow (Interrupt cause) = nat_eq cause LOCAL_COUNTER_OVERFLOW
 
 abbrev pub trap_transfer : Trap → CoreState → Transfer
 trap_transfer trap c = record {
@@ -157,8 +158,8 @@ any_event (Some e) = e ∷ []
 
 -- a refused access is an illegal or a virtual instruction
 abbrev pub refused : CsrFault → ℕ → CoreState → UnitState → Step
-refused Illegal word c u = trapped (Exception 2) word c u
-refused Virtual word c u = trapped (Exception 22) word c u
+refused Illegal word c u = trapped (Exception ILLEGAL_INSTRUCTION) word c u
+refused Virtual word c u = trapped (Exception VIRTUAL_INSTRUCTION) word c u
 
 -- an access to a register: rd takes the old value
 abbrev pub answered : Result ℕ CsrFault → Accessed → ℕ → ℕ → CoreState → UnitState → Step
@@ -174,8 +175,8 @@ by_access a rd word c u = answered a.answer a rd word c u
 
 -- SCTRCLR is illegal in U, and a virtual instruction in VU
 abbrev pub clears : Mode → ℕ → CoreState → UnitState → Step
-clears modes.U word c u = trapped (Exception 2) word c u
-clears modes.Vu word c u = trapped (Exception 22) word c u
+clears modes.U word c u = trapped (Exception ILLEGAL_INSTRUCTION) word c u
+clears modes.Vu word c u = trapped (Exception VIRTUAL_INSTRUCTION) word c u
 clears _ word c u = record { core = at_next c; unit = u; events = events.Clear ∷ [] }
 
 abbrev pub by_effect : Effect → UnitState → Step
@@ -194,7 +195,7 @@ pub record Made : Type 0 where
 
 -- the word is decoded; an unknown word is an illegal instruction
 abbrev pub by_instruction : Option Instr → ℕ → MachineState → Made
-by_instruction None word s = record { step = trapped (Exception 2) word s.core s.unit; mem = s.mem }
+by_instruction None word s = record { step = trapped (Exception ILLEGAL_INSTRUCTION) word s.core s.unit; mem = s.mem }
 by_instruction (Some i) word s = record {
   step = executed i word s.core s.unit s.mem;
   mem = (effect i word s.core s.mem).bytes;
@@ -210,7 +211,7 @@ fetched s = fetched_at (place_of (length s.mem) s.core.pc 4) s.mem
 
 -- there is no word: an instruction access fault
 abbrev pub by_word : Option ℕ → MachineState → Made
-by_word None s = record { step = trapped (Exception 1) s.core.pc s.core s.unit; mem = s.mem }
+by_word None s = record { step = trapped (Exception INSTRUCTION_ACCESS_FAULT) s.core.pc s.core s.unit; mem = s.mem }
 by_word (Some word) s = by_instruction (decoded word) word s
 
 -- an interrupt that is taken is pending no longer, and nothing is executed

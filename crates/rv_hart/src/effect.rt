@@ -9,7 +9,11 @@ use crate::memory::{TaskMem, count};
 use crate::outcome::{Jump, Outcome};
 use crate::processor::Core;
 use ctr_csrs::Mode;
-use guest_modes::Ret;
+use guest_modes::{
+    BREAKPOINT, ENVIRONMENT_CALL_FROM_M, ENVIRONMENT_CALL_FROM_S, ENVIRONMENT_CALL_FROM_U,
+    ENVIRONMENT_CALL_FROM_VS, ILLEGAL_INSTRUCTION, INSTRUCTION_ADDRESS_MISALIGNED, LOAD_ACCESS_FAULT,
+    LOAD_ADDRESS_MISALIGNED, Ret, STORE_ACCESS_FAULT, STORE_ADDRESS_MISALIGNED, VIRTUAL_INSTRUCTION,
+};
 use rv_alu::{apply, taken};
 use rv_decode::{Instr, Width};
 use xfer_class::{class_of, missed};
@@ -56,7 +60,7 @@ fn jump(core: &mut Core, jump: Option<Jump>, rd: u8, target: u64) -> Outcome
     ensures sound { IsSound result }
 {
     if target % 4 != 0 {
-        return Outcome::Raises(0, target);
+        return Outcome::Raises(INSTRUCTION_ADDRESS_MISALIGNED, target);
     }
     let link = core.after();
     core.put(rd, link);
@@ -73,7 +77,7 @@ fn branch(core: &Core, taken: bool, jump: Option<Jump>, target: u64) -> Outcome
         return Outcome::Goes(jump, core.after());
     }
     if target % 4 != 0 {
-        return Outcome::Raises(0, target);
+        return Outcome::Raises(INSTRUCTION_ADDRESS_MISALIGNED, target);
     }
     Outcome::Goes(jump, target)
 }
@@ -85,14 +89,14 @@ fn load(core: &mut Core, mem: &TaskMem, width: Width, signed: bool, rd: u8, addr
 {
     let bytes = count(width);
     if address % bytes != 0 {
-        return Outcome::Raises(4, address);
+        return Outcome::Raises(LOAD_ADDRESS_MISALIGNED, address);
     }
     match mem.place(address, bytes) {
         Some(at) => {
             let value = mem.load(width, signed, at);
             give(core, rd, value)
         }
-        None => Outcome::Raises(5, address),
+        None => Outcome::Raises(LOAD_ACCESS_FAULT, address),
     }
 }
 
@@ -102,14 +106,14 @@ fn store(core: &Core, mem: &mut TaskMem, width: Width, value: u64, address: u64)
 {
     let bytes = count(width);
     if address % bytes != 0 {
-        return Outcome::Raises(6, address);
+        return Outcome::Raises(STORE_ADDRESS_MISALIGNED, address);
     }
     match mem.place(address, bytes) {
         Some(at) => {
             mem.store(width, value, at);
             next(core)
         }
-        None => Outcome::Raises(7, address),
+        None => Outcome::Raises(STORE_ACCESS_FAULT, address),
     }
 }
 
@@ -119,10 +123,10 @@ fn call(mode: Mode) -> Outcome
     ensures sound { IsSound result }
 {
     let cause = match mode {
-        Mode::M => 11,
-        Mode::S => 9,
-        Mode::Vs => 10,
-        Mode::U | Mode::Vu => 8,
+        Mode::M => ENVIRONMENT_CALL_FROM_M,
+        Mode::S => ENVIRONMENT_CALL_FROM_S,
+        Mode::Vs => ENVIRONMENT_CALL_FROM_VS,
+        Mode::U | Mode::Vu => ENVIRONMENT_CALL_FROM_U,
     };
     Outcome::Raises(cause, 0)
 }
@@ -133,7 +137,7 @@ fn mret(mode: Mode, word: u32) -> Outcome
 {
     match mode {
         Mode::M => Outcome::Returns(Ret::Mret),
-        Mode::S | Mode::U | Mode::Vs | Mode::Vu => Outcome::Raises(2, u64::from(word)),
+        Mode::S | Mode::U | Mode::Vs | Mode::Vu => Outcome::Raises(ILLEGAL_INSTRUCTION, u64::from(word)),
     }
 }
 
@@ -144,8 +148,8 @@ fn sret(mode: Mode, word: u32) -> Outcome
     match mode {
         Mode::M | Mode::S => Outcome::Returns(Ret::SretHs),
         Mode::Vs => Outcome::Returns(Ret::SretVs),
-        Mode::U => Outcome::Raises(2, u64::from(word)),
-        Mode::Vu => Outcome::Raises(22, u64::from(word)),
+        Mode::U => Outcome::Raises(ILLEGAL_INSTRUCTION, u64::from(word)),
+        Mode::Vu => Outcome::Raises(VIRTUAL_INSTRUCTION, u64::from(word)),
     }
 }
 
@@ -208,7 +212,7 @@ pub(crate) fn execute(core: &mut Core, mem: &mut TaskMem, instr: Instr, word: u3
             give(core, rd, value)
         }
         Instr::Ecall => call(core.mode),
-        Instr::Ebreak => Outcome::Raises(3, 0),
+        Instr::Ebreak => Outcome::Raises(BREAKPOINT, 0),
         Instr::Mret => mret(core.mode, word),
         Instr::Sret => sret(core.mode, word),
         Instr::Fence | Instr::FenceI | Instr::Wfi | Instr::Csr { .. } | Instr::CtrClr => next(core),

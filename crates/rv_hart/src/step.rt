@@ -19,7 +19,10 @@ use crate::transfers::carry;
 use ctr_buffer::CtrStore;
 use ctr_csrs::Mode;
 use ctr_rules::Transfer;
-use guest_modes::{CsrFault, Ret, Trap, enter_trap, leave_trap, pick_interrupt, trap_target};
+use guest_modes::{
+    BREAKPOINT, CsrFault, ILLEGAL_INSTRUCTION, INSTRUCTION_ACCESS_FAULT, LOCAL_COUNTER_OVERFLOW, Ret,
+    Trap, VIRTUAL_INSTRUCTION, enter_trap, leave_trap, pick_interrupt, trap_target,
+};
 use indirect_regs::{CsrUse, access, register_laws};
 use rv_decode::{CsrArg, CsrOp, Instr, decode};
 use xfer_class::XferType;
@@ -167,8 +170,8 @@ impl<B: CtrStore> Hart<B> {
         ensures { self.new ≡ ran self.old (refused fault word self.old.core self.old.unit) }
     {
         match fault {
-            CsrFault::Illegal => self.raise(2, u64::from(word)),
-            CsrFault::Virtual => self.raise(22, u64::from(word)),
+            CsrFault::Illegal => self.raise(ILLEGAL_INSTRUCTION, u64::from(word)),
+            CsrFault::Virtual => self.raise(VIRTUAL_INSTRUCTION, u64::from(word)),
         }
     }
 
@@ -188,8 +191,8 @@ impl<B: CtrStore> Hart<B> {
         ensures { self.new ≡ ran self.old (clears self.old.core.mode word self.old.core self.old.unit) }
     {
         match self.core.mode {
-            Mode::U => self.raise(2, u64::from(word)),
-            Mode::Vu => self.raise(22, u64::from(word)),
+            Mode::U => self.raise(ILLEGAL_INSTRUCTION, u64::from(word)),
+            Mode::Vu => self.raise(VIRTUAL_INSTRUCTION, u64::from(word)),
             Mode::M | Mode::S | Mode::Vs => {
                 self.core.advance();
                 self.unit.clear();
@@ -230,7 +233,7 @@ impl<B: CtrStore> Hart<B> {
     {
         match decode(word) {
             Some(instr) => self.execute(mem, instr, word),
-            None => self.raise(2, u64::from(word)),
+            None => self.raise(ILLEGAL_INSTRUCTION, u64::from(word)),
         }
     }
 
@@ -241,7 +244,7 @@ impl<B: CtrStore> Hart<B> {
     {
         match self.fetch(mem) {
             Some(word) => self.run_word(mem, word),
-            None => self.raise(1, self.core.pc),
+            None => self.raise(INSTRUCTION_ACCESS_FAULT, self.core.pc),
         }
     }
 
@@ -280,7 +283,7 @@ fn is_breakpoint(trap: Trap) -> bool
     ensures { result ≡ is_breakpoint trap }
 {
     match trap {
-        Trap::Exception(cause) => cause == 3,
+        Trap::Exception(cause) => cause == BREAKPOINT,
         Trap::Interrupt(_) => false,
     }
 }
@@ -290,7 +293,7 @@ fn is_overflow(trap: Trap) -> bool
 {
     match trap {
         Trap::Exception(_) => false,
-        Trap::Interrupt(cause) => cause == 13,
+        Trap::Interrupt(cause) => cause == LOCAL_COUNTER_OVERFLOW,
     }
 }
 
