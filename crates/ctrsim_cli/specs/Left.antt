@@ -6,7 +6,7 @@ use Rattle.rv_hart.specs.Step.{MachineState}
 use Rattle.rv_hart.specs.Lone.{RunState, lone_run}
 use Rattle.rv_hart.specs.Hart.{HartState, fresh_hart}
 use Rattle.ctrsim_cli.specs.SmallForm.{Schedule}
-use Rattle.ctrsim_cli.specs.Sample.{sample_of}
+use Rattle.ctrsim_cli.specs.Sample.{small_layout, sample_of}
 
 -- the lone run of the task after all steps
 abbrev pub run_of : Schedule → RunState
@@ -14,7 +14,7 @@ run_of s = lone_run s.task s.steps
 
 -- the one sample
 abbrev pub output : Schedule → List ℕ
-output s = spelling 0x803 (sample_of (run_of s))
+output s = spelling small_layout (sample_of (run_of s))
 
 -- how often a monitor reaches for a register: it writes the depth and the two controls, and at the end it reads the depth and
 -- the select, selects each entry and reads its three parts, and writes the select back

@@ -8,8 +8,13 @@ use Rattle.perf_sample.specs.Blank.{blank}
 use Rattle.perf_sample.specs.declared.flags.TheConstants.{MISC_KERNEL, MISC_USER, MISC_HYPERVISOR, MISC_GUEST_KERNEL, MISC_GUEST_USER}
 use Rattle.perf_sample.specs.declared.sample.Branch.{Branch}
 use Rattle.perf_sample.specs.declared.sample.Sample.{Sample}
+use Rattle.perf_sample.specs.Layout.{LayoutWords, of_sample_type}
 use Rattle.perf_sample.specs.Flags.{transfer_branch}
 use Rattle.rv_hart.specs.Lone.{RunState}
+
+-- sample_type with ip, tid with pid, and the branch stack
+abbrev pub small_layout : LayoutWords
+small_layout = of_sample_type 0x803
 
 abbrev pub misc_of : Mode → ℕ
 misc_of modes.M = MISC_HYPERVISOR

@@ -5,7 +5,7 @@ ghost use Rattle.rv_hart.specs.Memory.{memory_of};
 ghost use Rattle.rv_hart.specs.Lone.{first_state, after_steps};
 ghost use Rattle.rv_hart.specs.Hart.{fresh_hart, machine_of};
 ghost use Rattle.ctrsim_cli.specs.Form.{schedule_of};
-ghost use Rattle.ctrsim_cli.specs.Sample.{sample_of};
+ghost use Rattle.ctrsim_cli.specs.Sample.{sample_of, small_layout};
 ghost use Rattle.ctrsim_cli.specs.Left.{run_of, ran_hart};
 
 use crate::sampling::sample;
@@ -47,7 +47,7 @@ pub fn run_on(hart: &mut Hart<Store>, mem: &mut TaskMem, form: &Form<'_>) -> Sam
     requires few { form.now.steps ≤ 1000000000 }
     ensures hart { hart.new ≡ ran_hart (schedule_of form.now) }
     ensures sample { result ≡ sample_of (run_of (schedule_of form.now)) }
-    ensures fits { Fits 0x803 result }
+    ensures fits { Fits small_layout result }
 {
     lone_run_laws();
     prepare(hart, form);

@@ -5,7 +5,7 @@ ghost use Rattle.perf_sample.specs.Layout.{Fits, FlagsFit};
 ghost use Rattle.perf_sample.specs.Spelling.{spelling};
 ghost use Rattle.ctr_port.specs.Counts.{Rose};
 ghost use Rattle.ctr_port.specs.Appended.{GainsPart};
-ghost use Rattle.ctrsim_cli.specs.Sample.{misc_of, branch_of, sample_at};
+ghost use Rattle.ctrsim_cli.specs.Sample.{misc_of, branch_of, sample_at, small_layout};
 
 use ctr_buffer::Slot;
 use ctr_csrs::Mode;
@@ -59,7 +59,7 @@ fn branches(slots: &Slots) -> Branches
 pub fn sample(hart: &mut Hart<Store>) -> Sample
     requires { hart.old.accesses ≤ 2 ^ 62 }
     ensures value { result ≡ sample_at hart.old.core.mode hart.old.core.pc hart.old.unit.stack.slots }
-    ensures fits { Fits 0x803 result }
+    ensures fits { Fits small_layout result }
     ensures hart { hart.new ≡ record hart.old { accesses = hart.old.accesses + (3 + 4 * entries_of hart.old.unit.stack.depth) } }
 {
     let slots = read_stack(hart);
@@ -74,9 +74,9 @@ pub fn sample(hart: &mut Hart<Store>) -> Sample
 
 /// Writes a sample.
 pub fn write_sample<K: Sink>(sample: &Sample, sink: &mut K) -> Result<(), WriteFault>
-    requires { Fits 0x803 sample.now }
-    ensures whole { OnOk result (K.gained sink.old (spelling 0x803 sample.now) sink.new) }
-    ensures part { OnErr result (GainsPart K.gained sink.old sink.new (spelling 0x803 sample.now)) }
+    requires { Fits small_layout sample.now }
+    ensures whole { OnOk result (K.gained sink.old (spelling small_layout sample.now) sink.new) }
+    ensures part { OnErr result (GainsPart K.gained sink.old sink.new (spelling small_layout sample.now)) }
     ensures later { K.faults sink.old ≤ K.faults sink.new }
     ensures cause { OnErr result (Rose (K.faults sink.old) (K.faults sink.new)) }
 {
