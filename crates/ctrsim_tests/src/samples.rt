@@ -42,7 +42,7 @@ struct Case {
     accesses: u64,
 }
 
-const SAMPLED: [Case; 28] = [
+const SAMPLED: [Case; 35] = [
     // jal x1, 8
     Case {
         name: "no step",
@@ -71,14 +71,14 @@ const SAMPLED: [Case; 28] = [
     },
     // beq x0, x0, 8
     Case {
-        name: "a branch that is taken",
+        name: "a branch forward that is taken, which was predicted otherwise",
         task: b"12 0 4 0 0",
         irqs: b"",
         image: b"\x63\x04\x00\x00",
         steps: b"1",
         misc: 3,
         ip: 0x8000_0008,
-        branches: &[(0x8000_0000, 0x8000_0008, 0x0010_0000)],
+        branches: &[(0x8000_0000, 0x8000_0008, 0x0010_0001)],
         status: 0x1,
         accesses: 70,
     },
@@ -105,9 +105,9 @@ const SAMPLED: [Case; 28] = [
         misc: 3,
         ip: 0x8000_0010,
         branches: &[
-            (0x8000_0010, 0x8000_0010, 0x0050_0000),
+            (0x8000_0010, 0x8000_0010, 0x0050_0002),
             (0x8000_000C, 0x8000_0010, 0x0020_0000),
-            (0x8000_0008, 0x8000_0004, 0x0010_0000),
+            (0x8000_0008, 0x8000_0004, 0x0010_0002),
         ],
         status: 0x3,
         accesses: 70,
@@ -121,7 +121,7 @@ const SAMPLED: [Case; 28] = [
         steps: b"3",
         misc: 3,
         ip: 0x8000_0010,
-        branches: &[(0x8000_0008, 0x8000_0010, 0x0010_0000)],
+        branches: &[(0x8000_0008, 0x8000_0010, 0x0010_0001)],
         status: 0x1,
         accesses: 70,
     },
@@ -147,7 +147,7 @@ const SAMPLED: [Case; 28] = [
         steps: b"1",
         misc: 3,
         ip: 0x0,
-        branches: &[(0x8000_0000, 0x0, 0x0050_0000)],
+        branches: &[(0x8000_0000, 0x0, 0x0050_0002)],
         status: 0x0,
         accesses: 70,
     },
@@ -162,7 +162,7 @@ const SAMPLED: [Case; 28] = [
         ip: 0x0,
         branches: &[
             (0x8000_0004, 0x0, 0x0070_0000),
-            (0x8000_0000, 0x8000_0004, 0x0010_0000),
+            (0x8000_0000, 0x8000_0004, 0x0010_0002),
         ],
         status: 0x2,
         accesses: 70,
@@ -336,7 +336,7 @@ const SAMPLED: [Case; 28] = [
         steps: b"6",
         misc: 3,
         ip: 0x8000_0018,
-        branches: &[(0x8000_0014, 0x8000_0018, 0x0050_0000)],
+        branches: &[(0x8000_0014, 0x8000_0018, 0x0050_0002)],
         status: 0x1,
         accesses: 70,
     },
@@ -417,6 +417,97 @@ const SAMPLED: [Case; 28] = [
         branches: &[(0x8000_0008, 0x8000_000C, 0x0020_0000)],
         status: 0x1,
         accesses: 134,
+    },
+    // beq x0, x0, 0
+    Case {
+        name: "a branch to itself counts as forward",
+        task: b"4 0 4 0 0",
+        irqs: b"",
+        image: b"\x63\x00\x00\x00",
+        steps: b"1",
+        misc: 3,
+        ip: 0x8000_0000,
+        branches: &[(0x8000_0000, 0x8000_0000, 0x100001)],
+        status: 0x1,
+        accesses: 70,
+    },
+    // bne x0, x0, 0
+    Case {
+        name: "a branch to itself that isn't taken was predicted rightly",
+        task: b"4 0 1000000004 0 0",
+        irqs: b"",
+        image: b"\x63\x10\x00\x00",
+        steps: b"1",
+        misc: 3,
+        ip: 0x8000_0004,
+        branches: &[(0x8000_0000, 0x8000_0004, 0x100002)],
+        status: 0x1,
+        accesses: 70,
+    },
+    // addi x0, x0, 0; bne x0, x0, -4
+    Case {
+        name: "a branch backward that isn't taken was predicted otherwise",
+        task: b"8 0 1000000004 0 0",
+        irqs: b"",
+        image: b"\x13\x00\x00\x00\xE3\x1E\x00\xFE",
+        steps: b"2",
+        misc: 3,
+        ip: 0x8000_0008,
+        branches: &[(0x8000_0004, 0x8000_0008, 0x100001)],
+        status: 0x1,
+        accesses: 70,
+    },
+    // sireg of entry 0 is 101, sireg2 is 203, sireg3 is 5
+    Case {
+        name: "a task that writes MISP into an entry of a taken branch",
+        task: b"28 0 4 0 0",
+        irqs: b"",
+        image: b"\x93\x02\x00\x20\x73\x90\x02\x15\x13\x03\x10\x10\x73\x10\x13\x15\x13\x03\x30\x20\x73\x10\x23\x15\x73\xD0\x32\x15",
+        steps: b"7",
+        misc: 3,
+        ip: 0x8000_001C,
+        branches: &[(0x100, 0x202, 0x100001)],
+        status: 0x0,
+        accesses: 70,
+    },
+    // sireg of entry 0 is 101, sireg2 is 203, sireg3 is 13
+    Case {
+        name: "a task that writes MISP into an entry of a return",
+        task: b"28 0 4 0 0",
+        irqs: b"",
+        image: b"\x93\x02\x00\x20\x73\x90\x02\x15\x13\x03\x10\x10\x73\x10\x13\x15\x13\x03\x30\x20\x73\x10\x23\x15\x73\xD0\x36\x15",
+        steps: b"7",
+        misc: 3,
+        ip: 0x8000_001C,
+        branches: &[(0x100, 0x202, 0x600001)],
+        status: 0x0,
+        accesses: 70,
+    },
+    // sireg of entry 0 is 101, sireg2 is 203, sireg3 is 6
+    Case {
+        name: "a task that writes MISP into an entry of a type that there isn't",
+        task: b"28 0 4 0 0",
+        irqs: b"",
+        image: b"\x93\x02\x00\x20\x73\x90\x02\x15\x13\x03\x10\x10\x73\x10\x13\x15\x13\x03\x30\x20\x73\x10\x23\x15\x73\x50\x33\x15",
+        steps: b"7",
+        misc: 3,
+        ip: 0x8000_001C,
+        branches: &[(0x100, 0x202, 0x0)],
+        status: 0x0,
+        accesses: 70,
+    },
+    // sireg of entry 0 is 101, sireg2 is 203, sireg3 is 7
+    Case {
+        name: "a task that writes MISP into an entry of another one",
+        task: b"28 0 4 0 0",
+        irqs: b"",
+        image: b"\x93\x02\x00\x20\x73\x90\x02\x15\x13\x03\x10\x10\x73\x10\x13\x15\x13\x03\x30\x20\x73\x10\x23\x15\x73\xD0\x33\x15",
+        steps: b"7",
+        misc: 3,
+        ip: 0x8000_001C,
+        branches: &[(0x100, 0x202, 0x0)],
+        status: 0x0,
+        accesses: 70,
     },
 ];
 

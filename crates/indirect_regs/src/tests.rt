@@ -22,13 +22,13 @@ fn registers_of_the_records_keep_the_bits_of_their_table(rt: HostRuntime) {
         (0x150, 0x200, 0xFFF), // siselect
         (0x250, 0x200, 0xFFF), // vsiselect
         (0x151, 0, ONES), // sireg, the source word
-        (0x152, 0, 0xFFFF_FFFF_FFFF_FFFE), // sireg2, the target word
+        (0x152, 0, ONES), // sireg2, the target word with MISP
         (0x153, 0, 0xF), // sireg3, the type
         (0x155, 0, 0), // sireg4 to sireg6 are unused
         (0x156, 0, 0),
         (0x157, 0, 0),
         (0x251, 0, ONES), // vsireg to vsireg6 by vsiselect
-        (0x252, 0, 0xFFFF_FFFF_FFFF_FFFE),
+        (0x252, 0, ONES),
         (0x253, 0, 0xF),
         (0x255, 0, 0),
         (0x256, 0, 0),
@@ -385,9 +385,9 @@ fn a_monitor_reaches_the_entry_that_it_selects(rt: HostRuntime) {
     };
     assert_eq!(rt;
         entry_parts(&mut port),
-        (0x31, 0x32, 0xB),
-        "the target is even, the type has four bits"
+        (0x31, 0x33, 0xB),
+        "both words are whole, the type has four bits"
     );
     port.clear();
-    assert_eq!(rt; entry_parts(&mut port), (0x31, 0x32, 0xB), "after a clear");
+    assert_eq!(rt; entry_parts(&mut port), (0x31, 0x33, 0xB), "after a clear");
 }

@@ -11,8 +11,9 @@ use crate::processor::Core;
 use ctr_csrs::Mode;
 use guest_modes::{
     BREAKPOINT, ENVIRONMENT_CALL_FROM_M, ENVIRONMENT_CALL_FROM_S, ENVIRONMENT_CALL_FROM_U,
-    ENVIRONMENT_CALL_FROM_VS, ILLEGAL_INSTRUCTION, INSTRUCTION_ADDRESS_MISALIGNED, LOAD_ACCESS_FAULT,
-    LOAD_ADDRESS_MISALIGNED, Ret, STORE_ACCESS_FAULT, STORE_ADDRESS_MISALIGNED, VIRTUAL_INSTRUCTION,
+    ENVIRONMENT_CALL_FROM_VS, ILLEGAL_INSTRUCTION, INSTRUCTION_ADDRESS_MISALIGNED,
+    LOAD_ACCESS_FAULT, LOAD_ADDRESS_MISALIGNED, Ret, STORE_ACCESS_FAULT, STORE_ADDRESS_MISALIGNED,
+    VIRTUAL_INSTRUCTION,
 };
 use rv_alu::{apply, taken};
 use rv_decode::{Instr, Width};
@@ -137,7 +138,10 @@ fn mret(mode: Mode, word: u32) -> Outcome
 {
     match mode {
         Mode::M => Outcome::Returns(Ret::Mret),
-        Mode::S | Mode::U | Mode::Vs | Mode::Vu => Outcome::Raises(ILLEGAL_INSTRUCTION, u64::from(word)),
+        Mode::S | Mode::U | Mode::Vs | Mode::Vu => Outcome::Raises(
+            ILLEGAL_INSTRUCTION,
+            u64::from(word),
+        ),
     }
 }
 

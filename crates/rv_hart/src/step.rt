@@ -20,8 +20,8 @@ use ctr_buffer::CtrStore;
 use ctr_csrs::Mode;
 use ctr_rules::Transfer;
 use guest_modes::{
-    BREAKPOINT, CsrFault, ILLEGAL_INSTRUCTION, INSTRUCTION_ACCESS_FAULT, LOCAL_COUNTER_OVERFLOW, Ret,
-    Trap, VIRTUAL_INSTRUCTION, enter_trap, leave_trap, pick_interrupt, trap_target,
+    BREAKPOINT, CsrFault, ILLEGAL_INSTRUCTION, INSTRUCTION_ACCESS_FAULT, LOCAL_COUNTER_OVERFLOW,
+    Ret, Trap, VIRTUAL_INSTRUCTION, enter_trap, leave_trap, pick_interrupt, trap_target,
 };
 use indirect_regs::{CsrUse, access, register_laws};
 use rv_decode::{CsrArg, CsrOp, Instr, decode};

@@ -569,7 +569,7 @@ const CALL_FROM_VU: &[u32] = &[
     0x0000_0073,
 ];
 
-const IN_MODES: [InModes; 9] = [
+const IN_MODES: [InModes; 12] = [
     InModes {
         name: "a call from U to M without STE",
         words: CALL_FROM_U,
@@ -708,6 +708,42 @@ const IN_MODES: [InModes; 9] = [
             (0x8000_000D, 0x8000_000C, 11),
             (0x8000_000D, 0x8000_000C, 11),
         ],
+    },
+    // beq x0, x0, 8
+    InModes {
+        name: "a branch forward that is taken, with MISP in its target word",
+        words: &[0x0000_0463],
+        controls: (4, 0),
+        raised: (0, 0),
+        steps: 1,
+        pc: 0x8000_0008,
+        mode: Mode::M,
+        status: 1,
+        entries: &[(0x8000_0001, 0x8000_0009, 5)],
+    },
+    // addi x0, x0, 0; beq x0, x0, -4
+    InModes {
+        name: "a branch backward that is taken, without MISP",
+        words: &[0x0000_0013, 0xFE00_0EE3],
+        controls: (4, 0),
+        raised: (0, 0),
+        steps: 2,
+        pc: 0x8000_0000,
+        mode: Mode::M,
+        status: 1,
+        entries: &[(0x8000_0005, 0x8000_0000, 5)],
+    },
+    // addi x0, x0, 0; bne x0, x0, -4; bne x0, x0, 8, with NTBREN
+    InModes {
+        name: "branches that aren't taken, one backward and one forward",
+        words: &[0x0000_0013, 0xFE00_1EE3, 0x0000_1463],
+        controls: (0x10_0000_0004, 0),
+        raised: (0, 0),
+        steps: 3,
+        pc: 0x8000_000C,
+        mode: Mode::M,
+        status: 2,
+        entries: &[(0x8000_0009, 0x8000_000C, 4), (0x8000_0005, 0x8000_0009, 4)],
     },
 ];
 

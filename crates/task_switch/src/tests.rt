@@ -6,16 +6,17 @@ use ctr_csrs::Depth;
 use indirect_regs::{CtrPort, CtrUnit, PortReg};
 use std::process::Abort;
 
-const CALL: Slot = Slot {
+// A branch that was mispredicted: MISP is bit 0 of the target word.
+const MISSED: Slot = Slot {
     source: 0x101,
-    target: 0x400,
-    kind: 9,
+    target: 0x401,
+    kind: 5,
 };
 
-// V is 0.
+// A call whose V is cleared. It keeps MISP.
 const GONE: Slot = Slot {
     source: 0x200,
-    target: 0x500,
+    target: 0x501,
     kind: 8,
 };
 
@@ -72,8 +73,13 @@ fn used(depth: Depth) -> Monitor
     unit.set(PortReg::Vsctrctl, 0x3);
     unit.set(PortReg::Status, 0x8000_0003);
     unit.perform(Event::Push(OLDER));
-    unit.perform(Event::Push(GONE));
-    unit.perform(Event::Push(CALL));
+    unit.perform(Event::Push(Slot {
+        source: GONE.source + 1,
+        ..GONE
+    }));
+    unit.set(PortReg::Select, 0x200);
+    unit.set(PortReg::From, GONE.source);
+    unit.perform(Event::Push(MISSED));
     unit.set(PortReg::Select, 0x203);
     Monitor { unit, count: 0 }
 }
@@ -88,7 +94,7 @@ fn moved(rt: &impl Abort, depth: Depth, code: u64, saving: u64, restoring: u64) 
         unit: CtrUnit::fresh(Depth::D64),
         count: 0,
     };
-    to.unit.perform(Event::Push(GONE));
+    to.unit.perform(Event::Push(OLDER));
     restore(&mut to, &area);
     assert_eq!(rt;
         to.accesses(),
@@ -106,7 +112,7 @@ fn moved(rt: &impl Abort, depth: Depth, code: u64, saving: u64, restoring: u64) 
     }
     assert_eq!(rt;
         area.slots.items().get(..4),
-        Some([CALL, GONE, OLDER, Slot::default()].as_slice()),
+        Some([MISSED, GONE, OLDER, Slot::default()].as_slice()),
         "the saved entries at {depth:?}"
     );
     let mut again = SaveArea::fresh(Depth::D16, 0, 0);
@@ -130,7 +136,7 @@ fn the_stack_has_the_entries_with_v_and_the_select_stays(rt: HostRuntime) {
     let stack = read_stack(&mut port);
     assert_eq!(rt;
         stack.items(),
-        [CALL, OLDER].as_slice(),
+        [MISSED, OLDER].as_slice(),
         "the entry with V=0 is skipped"
     );
     assert_eq!(rt; port.accesses(), 67, "3 + 4·16");
