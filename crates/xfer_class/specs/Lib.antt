@@ -1,5 +1,5 @@
--- What a reader must believe: TypeRows (the table of transfer types), Types (their numbers), Missed.
--- Types also has the table as functions, which the crates above cite.
+-- What a reader must believe: TypeRows (the table of transfer types), Types (their numbers),
+-- Missed. Types also has the table as functions, which the crates above cite.
 pub mod Types
 pub mod TypeRows
 pub mod Missed

@@ -5,9 +5,10 @@ ghost use Rattle.xfer_class.specs.Missed.{is_backward, missed_of};
 
 use rv_decode::Instr;
 
-/// Whether the static predictor of this project misses the transfer of an instruction: a branch with a
-/// negative offset is predicted taken, any other branch not taken (an offset of 0 is forward), and all other
-/// transfers are predicted rightly. `taken` says whether a branch was taken, and matters for nothing else.
+/// Whether the static predictor of this project misses the transfer of an instruction: a branch
+/// with a negative offset is predicted taken, any other branch not taken (an offset of 0 is
+/// forward), and all other transfers are predicted rightly. `taken` says whether a branch was
+/// taken, and matters for nothing else.
 pub fn missed(instr: Instr, taken: bool) -> bool
     ensures branch { result ≡ true → type_of instr taken ≡ Some (cond taken Taken NotTaken) }
     ensures value { result ≡ missed_of instr taken }

@@ -120,7 +120,8 @@ fn code_of_word(word: u32) -> Option<u8> {
     Some(transfer.code())
 }
 
-// RISC-V Control Transfer Records 1.0, transfer types; the words are those of the base formats I and J.
+// RISC-V Control Transfer Records 1.0, transfer types; the words are those of the base formats I
+// and J.
 #[test]
 fn the_words_of_jumps_have_the_types_of_their_registers(rt: HostRuntime) {
     for (word, want) in [
