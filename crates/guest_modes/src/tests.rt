@@ -1,14 +1,10 @@
-ghost use Rattle.std.specs.Prelude.{◌≡◌};
-ghost use Rattle.guest_modes.specs.Numbers.{is_in};
-ghost use Rattle.guest_modes.specs.Traps.{interrupt_order};
-
 use crate::{
     BREAKPOINT, ENVIRONMENT_CALL_FROM_M, ENVIRONMENT_CALL_FROM_S, ENVIRONMENT_CALL_FROM_U,
     ENVIRONMENT_CALL_FROM_VS, ILLEGAL_INSTRUCTION, INSTRUCTION_ACCESS_FAULT,
     INSTRUCTION_ADDRESS_MISALIGNED, LOAD_ACCESS_FAULT, LOAD_ADDRESS_MISALIGNED,
     LOCAL_COUNTER_OVERFLOW, Priv, STORE_ACCESS_FAULT, STORE_ADDRESS_MISALIGNED,
-    VIRTUAL_INSTRUCTION, fact_laws, interrupt_laws, priv_facts, privilege_laws, status_laws,
-    write_csr,
+    VIRTUAL_INSTRUCTION, fact_laws, interrupt_laws, is_interrupt, priv_facts, privilege_laws,
+    status_laws, write_csr,
 };
 
 mod delegation;
@@ -17,13 +13,6 @@ mod status_bits;
 mod trap_entry;
 
 const ONES: u64 = 0xFFFF_FFFF_FFFF_FFFF;
-
-// Whether the number is one of the ten interrupts.
-fn is_interrupt(cause: u8) -> bool
-    ensures { result ≡ is_in cause interrupt_order }
-{
-    matches!(cause, 1 | 2 | 3 | 5 | 6 | 7 | 9 | 10 | 11 | 13)
-}
 
 // Fresh registers with these delegations.
 fn delegating(medeleg: u64, mideleg: u64, hedeleg: u64, hideleg: u64) -> Priv {
@@ -35,7 +24,8 @@ fn delegating(medeleg: u64, mideleg: u64, hedeleg: u64, hideleg: u64) -> Priv {
     p
 }
 
-// RISC-V Privileged Architecture, "Machine Cause Register", and the hypervisor extension's table of causes.
+// RISC-V Privileged Architecture, "Machine Cause Register", and the hypervisor extension's table of
+// causes.
 #[test]
 fn each_cause_has_the_number_of_the_standard(rt: HostRuntime) {
     for (cause, want) in [
@@ -55,6 +45,17 @@ fn each_cause_has_the_number_of_the_standard(rt: HostRuntime) {
         (VIRTUAL_INSTRUCTION, 22),
     ] {
         assert_eq!(rt; cause, want);
+    }
+}
+
+// RISC-V Privileged Architecture, "Machine Interrupt Registers", and the counter overflow of Sscofpmf.
+#[test]
+fn ten_numbers_are_those_of_interrupts(rt: HostRuntime) {
+    for number in [1, 2, 3, 5, 6, 7, 9, 10, 11, 13] {
+        assert!(rt; is_interrupt(number), "{number}");
+    }
+    for number in [0, 4, 8, 12, 14, 15, 63, 64, 65, 77, 255] {
+        assert!(rt; !is_interrupt(number), "{number}");
     }
 }
 

@@ -1,5 +1,5 @@
-use super::{delegating, is_interrupt};
-use crate::{Trap, pick_interrupt, trap_target, write_csr};
+use super::delegating;
+use crate::{Trap, is_interrupt, pick_interrupt, trap_target, write_csr};
 use ctr_csrs::Mode;
 
 #[test]

@@ -1,7 +1,8 @@
-//! Traps and returns from states in which every bit that they clear is set (Privileged Architecture, "Privilege and
-//! Global Interrupt-Enable Stack in mstatus register", "Trap Entry" and "Trap Return" of the hypervisor extension).
-//! mstatus keeps SIE 1, MIE 3, SPIE 5, MPIE 7, SPP 8, MPP 12:11 and MPV 39, and reads with 0xA_0000_0000 besides;
-//! hstatus keeps SPV 7 and SPVP 8, vsstatus SIE 1, SPIE 5 and SPP 8, and both read with 0x2_0000_0000 besides.
+//! Traps and returns from states in which every bit that they clear is set (Privileged
+//! Architecture, "Privilege and Global Interrupt-Enable Stack in mstatus register", "Trap Entry"
+//! and "Trap Return" of the hypervisor extension). mstatus keeps SIE 1, MIE 3, SPIE 5, MPIE 7, SPP
+//! 8, MPP 12:11 and MPV 39, and reads with 0xA_0000_0000 besides; hstatus keeps SPV 7 and SPVP 8,
+//! vsstatus SIE 1, SPIE 5 and SPP 8, and both read with 0x2_0000_0000 besides.
 
 use super::delegating;
 use crate::{Priv, Ret, Trap, enter_trap, leave_trap, read_csr, trap_target, write_csr};

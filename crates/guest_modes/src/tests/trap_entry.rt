@@ -1,7 +1,7 @@
-use super::{ONES, delegating, is_interrupt};
+use super::{ONES, delegating};
 use crate::{
-    Priv, Ret, Trap, enter_trap, is_register, leave_trap, pick_interrupt, read_csr, trap_target,
-    write_csr,
+    Priv, Ret, Trap, enter_trap, is_interrupt, is_register, leave_trap, pick_interrupt, read_csr,
+    trap_target, write_csr,
 };
 use ctr_csrs::Mode;
 
