@@ -296,7 +296,8 @@ fn divisions_round_toward_zero_and_refuse_nothing(rt: HostRuntime) {
     }
 }
 
-// Unprivileged ISA, extension M: the answers by zero and of the quotient that doesn't fit, and upper halves.
+// Unprivileged ISA, extension M: the answers by zero and of the quotient that doesn't fit, and
+// upper halves.
 #[test]
 fn the_answers_that_the_manual_lists_apart(rt: HostRuntime) {
     for (op, a, b, want) in [
