@@ -1,4 +1,5 @@
-// The values are those that bench/alu_edges.py prints: it computes them on whole numbers.
+// The operations of the Unprivileged ISA, RV64I and the extension M. The values are those that
+// bench/alu_edges.py prints: it computes them on whole numbers.
 use crate::{apply, division_laws, product_laws, size_laws, taken};
 use rv_decode::{AluOp, Cond};
 

@@ -1,6 +1,8 @@
 use crate::{XferType, class_of, missed};
 use rv_decode::{AluOp, Cond, CsrArg, CsrOp, Instr, Width, decode};
 
+// RISC-V Control Transfer Records 1.0, transfer types, for this test and those below; the link
+// registers are those of the Unprivileged ISA, "Unconditional Jumps".
 #[test]
 fn the_destination_of_a_jal_decides_its_type(rt: HostRuntime) {
     for (rd, want) in [

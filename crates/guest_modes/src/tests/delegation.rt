@@ -1,3 +1,6 @@
+//! Which mode takes a trap, and which interrupt comes (Privileged Architecture, "Machine Trap
+//! Delegation Registers", "Hypervisor Trap Delegation Registers", "Machine Interrupt Registers").
+
 use super::delegating;
 use crate::{Trap, is_interrupt, pick_interrupt, trap_target, write_csr};
 use ctr_csrs::Mode;
