@@ -8,7 +8,7 @@ mod prediction;
 mod types;
 
 pub use class::class_of;
-pub use prediction::missed;
+pub use prediction::{missed, prediction_laws};
 pub use types::XferType;
 
 #[cfg(test)]

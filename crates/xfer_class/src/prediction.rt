@@ -2,6 +2,7 @@ ghost use Rattle.std.specs.Prelude.{◌≡◌, true, Some, cond};
 ghost use Rattle.xfer_class.specs.Types.{type_of};
 ghost use Rattle.xfer_class.specs.declared.types.XferType.TheVariants.{NotTaken, Taken};
 ghost use Rattle.xfer_class.specs.Missed.{is_backward, missed_of};
+ghost use Rattle.xfer_class.specs.MissedLaws.{BackwardIsNegative};
 
 use rv_decode::Instr;
 
@@ -25,3 +26,8 @@ fn is_backward(off: u64) -> bool
 {
     off >= 1 << 63
 }
+
+/// A branch backward has a negative offset, and any other hasn't: a proof and no work.
+pub fn prediction_laws()
+    ensures backward_is_negative { BackwardIsNegative }
+{}

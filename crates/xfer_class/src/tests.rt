@@ -1,4 +1,4 @@
-use crate::{XferType, class_of, missed};
+use crate::{XferType, class_of, missed, prediction_laws};
 use rv_decode::{AluOp, Cond, CsrArg, CsrOp, Instr, Width, decode};
 
 // RISC-V Control Transfer Records 1.0, transfer types, for this test and those below; the link
@@ -165,6 +165,7 @@ fn a_branch_is_missed_where_it_goes_another_way_than_its_offset(rt: HostRuntime)
     ] {
         assert_eq!(rt; missed(instr, taken), want, "{instr:?}, taken {taken}");
     }
+    prediction_laws();
 }
 
 #[test]
