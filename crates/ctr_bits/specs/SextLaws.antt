@@ -1,5 +1,5 @@
--- Laws of sign extension: what is extended stands for the number that the bits stood for (Unprivileged ISA,
--- the immediates of the base formats: each is a number in two's complement).
+-- Laws of sign extension: what is extended stands for the number that the bits stood for
+-- (Unprivileged ISA, the immediates of the base formats: each is a number in two's complement).
 use Rattle.std.specs.Prelude.{ℕ, ℤ, ◌≡◌, ◌+◌, ◌-◌, ◌*◌, ◌/◌, ◌%◌, ◌^◌, ◌<◌, ◌≤◌, Bool, true, false, cond, ltb, pos, ◌-ℤ◌}
 use Rattle.std.proofs.Common.{sym, ◌∙◌, ap, inl, inr, arith}
 use Rattle.std.proofs.Math.Nat.{mod-eq-sub-mod, mod-eq_of_lt, pow-le-pow_right}
@@ -9,39 +9,48 @@ use Rattle.std.proofs.lemmas.Int.{ints}
 use Rattle.std.specs.Int.{w64, cast_signed}
 use Rattle.ctr_bits.specs.Sext.{extended}
 
--- the two's complement number of so many bits: the highest weighs - 2 ^ (bits - 1), and those below it are a whole number
+-- the two's complement number of so many bits: the highest weighs - 2 ^ (bits - 1), and those below
+-- it are a whole number
 abbrev pub number_of : ℕ → ℕ → ℤ
 number_of bits value = pos (value % 2 ^ (bits - 1)) -ℤ pos (value / 2 ^ (bits - 1) * 2 ^ (bits - 1))
 
 abbrev pub ExtendedIsNumber : Type 0
-ExtendedIsNumber = (bits value : ℕ) → 1 ≤ bits → bits ≤ 64 → value < 2 ^ bits → cast_signed w64 (extended bits value) ≡ number_of bits value
+ExtendedIsNumber =
+    (bits value : ℕ) → 1 ≤ bits → bits ≤ 64 → value < 2 ^ bits
+    → cast_signed w64 (extended bits value) ≡ number_of bits value
 
 -- and is a word of 64 bits
 abbrev pub ExtendedFits : Type 0
 ExtendedFits = (bits value : ℕ) → bits ≤ 64 → value < 2 ^ bits → extended bits value < 2 ^ 64
 
 -- a word by its highest bit
-pub sign_clear : (word low high : ℕ) → word < 2 ^ 63 → low ≡ word + high → cast_signed w64 word ≡ pos low -ℤ pos high
+pub sign_clear : (word low high : ℕ) → word < 2 ^ 63 → low ≡ word + high
+    → cast_signed w64 word ≡ pos low -ℤ pos high
 sign_clear word low high less is = omega (arith, ints)
 
-pub sign_set : (word low high : ℕ) → 2 ^ 63 ≤ word → word < 2 ^ 64 → low + 2 ^ 64 ≡ word + high → cast_signed w64 word ≡ pos low -ℤ pos high
+pub sign_set : (word low high : ℕ) → 2 ^ 63 ≤ word → word < 2 ^ 64 → low + 2 ^ 64 ≡ word + high
+    → cast_signed w64 word ≡ pos low -ℤ pos high
 sign_set word low high least fits is = grind (arith, ints)
 
 pub by_sign : (h value : ℕ) → h ≤ 2 ^ 63 → value < h + h
-    → cast_signed w64 (cond (ltb value h) value (value + (2 ^ 64 - (h + h)))) ≡ pos (value % h) -ℤ pos (value / h * h)
+    → cast_signed w64 (cond (ltb value h) value (value + (2 ^ 64 - (h + h))))
+    ≡ pos (value % h) -ℤ pos (value / h * h)
 by_sign h value most fits =
     let other = value + (2 ^ 64 - (h + h)) in
     let split : value / h * h + value % h ≡ value = div-add-mod' value h in
     elim (cases_lt value h) [
       | inl less ↦
           let low : value % h ≡ value = mod-eq_of_lt less in
-          ap (λ (n : ℕ). cast_signed w64 n) (cond-true (ltb value h) value other (lt-ltb value h less))
+          ap (λ (n : ℕ). cast_signed w64 n)
+          (cond-true (ltb value h) value other (lt-ltb value h less))
           ∙ sign_clear value (value % h) (value / h * h) (omega arith) (omega (arith, low, split))
       | inr least ↦
           let rest : value - h < h = omega arith in
           let low : value % h ≡ value - h = mod-eq-sub-mod least ∙ mod-eq_of_lt rest in
-          ap (λ (n : ℕ). cast_signed w64 n) (cond-false (ltb value h) value other (le-ltb value h least))
-          ∙ sign_set other (value % h) (value / h * h) (omega arith) (omega arith) (omega (arith, low, split))
+          ap (λ (n : ℕ). cast_signed w64 n)
+          (cond-false (ltb value h) value other (le-ltb value h least))
+          ∙ sign_set other (value % h) (value / h * h) (omega arith) (omega arith)
+          (omega (arith, low, split))
     ]
 
 pub extended_is_number : ExtendedIsNumber
@@ -52,10 +61,12 @@ extended_is_number bits value some room fits =
     let next : bits - 1 + 1 ≡ bits = omega arith in
     let twice : 2 ^ bits ≡ 2 ^ (bits - 1) + 2 ^ (bits - 1) =
     sym (ap (λ (k : ℕ). 2 ^ k) next) ∙ pow-add 2 (bits - 1) 1 ∙ omega arith in
-    ap (λ (n : ℕ). cast_signed w64 (cond (ltb value (2 ^ (bits - 1))) value (value + (2 ^ 64 - n)))) twice
+    let sign = ltb value (2 ^ (bits - 1)) in
+    ap (λ (n : ℕ). cast_signed w64 (cond sign value (value + (2 ^ 64 - n)))) twice
     ∙ by_sign (2 ^ (bits - 1)) value most (omega (arith, twice))
 
-pub by_sign_fits : (t : Bool) (end value : ℕ) → end ≤ 2 ^ 64 → value < end → cond t value (value + (2 ^ 64 - end)) < 2 ^ 64
+pub by_sign_fits : (t : Bool) (end value : ℕ) → end ≤ 2 ^ 64 → value < end
+    → cond t value (value + (2 ^ 64 - end)) < 2 ^ 64
 by_sign_fits true end value most fits = omega arith
 by_sign_fits false end value most fits = omega arith
 

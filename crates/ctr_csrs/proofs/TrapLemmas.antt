@@ -32,7 +32,8 @@ pairs_rise Vu U = refl
 pairs_rise Vu Vs = refl
 pairs_rise Vu Vu = refl
 
-pub by_bit : (from to : Mode) → NeedsBetween from to M_mte → NeedsBetween from to M_ste → NeedsBetween from to Vs_ste → (bit : TrapEnable) → NeedsBetween from to bit
+pub by_bit : (from to : Mode) → NeedsBetween from to M_mte → NeedsBetween from to M_ste
+    → NeedsBetween from to Vs_ste → (bit : TrapEnable) → NeedsBetween from to bit
 by_bit from to m s vs M_mte = m
 by_bit from to m s vs M_ste = s
 by_bit from to m s vs Vs_ste = vs

@@ -1,5 +1,5 @@
--- What a reader must believe: Modes, ControlFigure, Depths, StatusFigure, TrapEnables, and the statements of RegisterLaws
--- and TrapLaws.
+-- What a reader must believe: Modes, ControlFigure, Depths, StatusFigure, TrapEnables, and the
+-- statements of RegisterLaws and TrapLaws.
 pub mod ControlFigure
 pub mod Depths
 pub mod Modes

@@ -1,6 +1,7 @@
 use super::*;
 
-// Each bit with the word that has it alone, by the register figure of mctrctl.
+// Each bit with the word that has it alone, by the register figure of mctrctl (RISC-V Control
+// Transfer Records 1.0).
 const FIGURE: [(ControlBit, u64); 21] = [
     (ControlBit::U, 0x1),
     (ControlBit::S, 0x2),
@@ -34,6 +35,7 @@ fn each_bit_stands_where_the_figure_has_it(rt: HostRuntime) {
     }
 }
 
+// The register figures of mctrctl, sctrctl and vsctrctl.
 #[test]
 fn each_register_keeps_its_own_bits(rt: HostRuntime) {
     let all = legal_m(u64::MAX);
@@ -62,6 +64,7 @@ fn each_register_keeps_its_own_bits(rt: HostRuntime) {
     }
 }
 
+// The register sctrdepth and its table of depths.
 #[test]
 fn five_codes_name_the_five_depths(rt: HostRuntime) {
     for (code, depth, size) in [
@@ -80,6 +83,7 @@ fn five_codes_name_the_five_depths(rt: HostRuntime) {
     }
 }
 
+// The register figure of sctrstatus.
 #[test]
 fn a_status_word_has_the_pointer_low_and_frozen_in_bit_31(rt: HostRuntime) {
     for (wrptr, frozen, word) in [(0, false, 0), (255, false, 255), (1, true, 0x80000001)] {

@@ -26,7 +26,8 @@ abbrev pub all_below : ℕ → (ℕ → Bool) → Bool
 all_below zero test = true
 all_below (suc n) test = test n && all_below n test
 
-pub below_passes : (n : ℕ) (test : ℕ → Bool) (i : ℕ) → all_below n test ≡ true → i < n → test i ≡ true
+pub below_passes : (n : ℕ) (test : ℕ → Bool) (i : ℕ) → all_below n test ≡ true → i < n
+    → test i ≡ true
 below_passes zero test i e less = absurd (omega (arith, less))
 below_passes (suc n) test i e less =
     let parts = and_parts (test n) (all_below n test) e in
@@ -43,7 +44,8 @@ off_above mask n i fits above =
     let less : mask < 2 ^ i = omega (arith, fits, more) in
     ap (λ (q : ℕ). nat_eq (q % 2) 1) (div-eq_of_lt less)
 
-pub passes_in : (test : ℕ → Bool) (ns : List ℕ) (n : ℕ) → is_in n ns ≡ true → list_all test ns ≡ true → test n ≡ true
+pub passes_in : (test : ℕ → Bool) (ns : List ℕ) (n : ℕ) → is_in n ns ≡ true
+    → list_all test ns ≡ true → test n ≡ true
 passes_in test [] n e all = absurd (both_ways false refl e)
 passes_in test (m ∷ ms) n e all =
     let parts = and_parts (test m) (list_all test ms) all in
@@ -55,7 +57,8 @@ passes_in test (m ∷ ms) n e all =
 pub none_above : (i : ℕ) → 14 ≤ i → is_in i interrupt_order ≡ false
 none_above i above = elim (cases_Bool (is_in i interrupt_order)) [
   | inl there ↦
-      let less : i < 14 = ltb-true i 14 (passes_in (λ (n : ℕ). ltb n 14) interrupt_order i there refl) in
+      let less : i < 14 =
+      ltb-true i 14 (passes_in (λ (n : ℕ). ltb n 14) interrupt_order i there refl) in
       absurd (omega (arith, less, above))
   | inr gone ↦ gone
 ]
@@ -70,7 +73,8 @@ mask_has_interrupts i = elim (cases_lt i 14) [
 
 pub interrupts_within : InterruptsWithin
 interrupts_within i is =
-    eqb-true (bit_and (2 ^ i) 0x2EEE) (2 ^ i) (passes_in (λ (n : ℕ). nat_eq (bit_and (2 ^ n) 0x2EEE) (2 ^ n)) interrupt_order i is refl)
+    eqb-true (bit_and (2 ^ i) 0x2EEE) (2 ^ i)
+    (passes_in (λ (n : ℕ). nat_eq (bit_and (2 ^ n) 0x2EEE) (2 ^ n)) interrupt_order i is refl)
 
 abbrev pub delegable : ℕ → Bool
 delegable c = is_cause (Exception c) && not (nat_eq c 11)
@@ -83,6 +87,8 @@ not_delegable c above =
 
 pub delegates_exceptions : DelegatesExceptions
 delegates_exceptions c = elim (cases_lt c 23) [
-  | inl below ↦ same_is (is_on 0x4007FF c) (delegable c) (below_passes 23 (λ (n : ℕ). same (is_on 0x4007FF n) (delegable n)) c refl below)
+  | inl below ↦
+      same_is (is_on 0x4007FF c) (delegable c)
+      (below_passes 23 (λ (n : ℕ). same (is_on 0x4007FF n) (delegable n)) c refl below)
   | inr above ↦ off_above 0x4007FF 23 c (lit< tt) above ∙ sym (not_delegable c above)
 ]

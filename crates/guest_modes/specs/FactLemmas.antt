@@ -21,10 +21,22 @@ use Rattle.guest_modes.specs.RowFacts.{either, small_within, is, set}
 
 -- pending bits
 pub raised_keeps : RaisedKeeps
-raised_keeps p pending within h = record { status = h.status; words = set 3 (keeps 0x2EEE (bit_or p.mip pending)) p (or_within 0x2EEE p.mip pending (is 3 p (lit< tt) h) within) h }
+raised_keeps p pending within h =
+    record {
+      status = h.status;
+      words =
+          set 3 (keeps 0x2EEE (bit_or p.mip pending)) p
+          (or_within 0x2EEE p.mip pending (is 3 p (lit< tt) h) within) h;
+    }
 
 pub cleared_keeps : ClearedKeeps
-cleared_keeps p part h = record { status = h.status; words = set 3 (keeps 0x2EEE (bit_and p.mip part)) p (part_within 0x2EEE p.mip part (is 3 p (lit< tt) h)) h }
+cleared_keeps p part h =
+    record {
+      status = h.status;
+      words =
+          set 3 (keeps 0x2EEE (bit_and p.mip part)) p
+          (part_within 0x2EEE p.mip part (is 3 p (lit< tt) h)) h;
+    }
 
 -- traps
 pub guest_small : (i : ℕ) → i < 64 → guest_number i < 64
@@ -32,7 +44,8 @@ guest_small i p =
     let third = cond (nat_eq i 10) 9 i in
     let second = cond (nat_eq i 6) 5 third in
     let small = λ (n : ℕ). n < 64 in
-    either small (nat_eq i 2) 1 second (lit< tt) (either small (nat_eq i 6) 5 third (lit< tt) (either small (nat_eq i 10) 9 i (lit< tt) p))
+    either small (nat_eq i 2) 1 second (lit< tt)
+    (either small (nat_eq i 6) 5 third (lit< tt) (either small (nat_eq i 10) 9 i (lit< tt) p))
 
 pub seen_small : (m : Mode) (t : Trap) → IsSmall t → IsSmall (as_seen m t)
 seen_small M (Exception c) h = h
@@ -83,83 +96,162 @@ bit_fits lo w = mod_below (w / 2 ^ lo) 2 (lit< tt)
 
 pub aligned_within : (pc : ℕ) → pc < 2 ^ 64 → pc % 4 ≡ 0 → IsWithin 0xFFFFFFFFFFFFFFFC pc
 aligned_within pc small aligned =
-    let is : bit_and pc 0xFFFFFFFFFFFFFFFC ≡ pc / 4 * 4 = and_high_mask 64 2 (omega arith) pc small in
+    let is : bit_and pc 0xFFFFFFFFFFFFFFFC ≡ pc / 4 * 4 =
+    and_high_mask 64 2 (omega arith) pc small in
     omega (arith, is, aligned)
 
 pub within_aligned : (pc : ℕ) → IsWithin 0xFFFFFFFFFFFFFFFC pc → pc % 4 ≡ 0
 within_aligned pc h =
     let small : pc < 2 ^ 64 = small_within 0xFFFFFFFFFFFFFFFC pc (lit< tt) h in
-    let is : bit_and pc 0xFFFFFFFFFFFFFFFC ≡ pc / 4 * 4 = and_high_mask 64 2 (omega arith) pc small in
+    let is : bit_and pc 0xFFFFFFFFFFFFFFFC ≡ pc / 4 * 4 =
+    and_high_mask 64 2 (omega arith) pc small in
     omega (arith, is, h)
 
 pub hstatus_left : (w : ℕ) (m : Mode) → IsWithin 0x180 w → IsWithin 0x180 (guest_left w m)
 hstatus_left w M h = put_stays_within 7 1 0x180 w 0 (lit< tt) refl h
 hstatus_left w S h = put_stays_within 7 1 0x180 w 0 (lit< tt) refl h
 hstatus_left w U h = put_stays_within 7 1 0x180 w 0 (lit< tt) refl h
-hstatus_left w Vs h = put_stays_within 8 1 0x180 (with_field 7 1 w 1) 1 (lit< tt) refl (put_stays_within 7 1 0x180 w 1 (lit< tt) refl h)
-hstatus_left w Vu h = put_stays_within 8 1 0x180 (with_field 7 1 w 1) 0 (lit< tt) refl (put_stays_within 7 1 0x180 w 1 (lit< tt) refl h)
+hstatus_left w Vs h =
+    put_stays_within 8 1 0x180 (with_field 7 1 w 1) 1 (lit< tt) refl
+    (put_stays_within 7 1 0x180 w 1 (lit< tt) refl h)
+hstatus_left w Vu h =
+    put_stays_within 8 1 0x180 (with_field 7 1 w 1) 0 (lit< tt) refl
+    (put_stays_within 7 1 0x180 w 1 (lit< tt) refl h)
 
 -- three fields of mstatus or vsstatus at the places of S
-pub status_supervised : (w a b c : ℕ) → IsStatus w → a < 2 → b < 2 → c < 2 → IsStatus (with_field 1 1 (with_field 5 1 (with_field 8 1 w a) b) c)
+pub status_supervised : (w a b c : ℕ) → IsStatus w → a < 2 → b < 2 → c < 2
+    → IsStatus (with_field 1 1 (with_field 5 1 (with_field 8 1 w a) b) c)
 status_supervised w a b c h fa fb fc =
     let one = with_field 8 1 w a in
-    status_with_field 1 1 (with_field 5 1 one b) c (status_with_field 5 1 one b (status_with_field 8 1 w a h fa refl refl) fb refl refl) fc refl refl
+    status_with_field 1 1 (with_field 5 1 one b) c
+    (status_with_field 5 1 one b
+    (status_with_field 8 1 w a h fa refl refl) fb refl refl) fc refl refl
 
-pub within_supervised : (w a b c : ℕ) → IsWithin 0x122 w → a < 2 → b < 2 → c < 2 → IsWithin 0x122 (with_field 1 1 (with_field 5 1 (with_field 8 1 w a) b) c)
+pub within_supervised : (w a b c : ℕ) → IsWithin 0x122 w → a < 2 → b < 2 → c < 2
+    → IsWithin 0x122 (with_field 1 1 (with_field 5 1 (with_field 8 1 w a) b) c)
 within_supervised w a b c h fa fb fc =
     let one = with_field 8 1 w a in
-    put_stays_within 1 1 0x122 (with_field 5 1 one b) c fc refl (put_stays_within 5 1 0x122 one b fb refl (put_stays_within 8 1 0x122 w a fa refl h))
+    put_stays_within 1 1 0x122 (with_field 5 1 one b) c fc refl
+    (put_stays_within 5 1 0x122 one b fb refl (put_stays_within 8 1 0x122 w a fa refl h))
 
-pub status_entered : (w : ℕ) (m : Mode) → IsStatus w → IsStatus (with_field 3 1 (with_field 7 1 (with_field 39 1 (with_field 11 2 w (nominal m)) (guest m)) (field_of 3 1 w)) 0)
+pub status_entered : (w : ℕ) (m : Mode) → IsStatus w
+    → IsStatus
+    (with_field 3 1
+    (with_field 7 1 (with_field 39 1 (with_field 11 2 w (nominal m)) (guest m))
+    (field_of 3 1 w)) 0)
 status_entered w m h =
     let one = with_field 11 2 w (nominal m) in
     let two = with_field 39 1 one (guest m) in
     let three = with_field 7 1 two (field_of 3 1 w) in
     status_with_field 3 1 three 0
     (status_with_field 7 1 two (field_of 3 1 w)
-    (status_with_field 39 1 one (guest m) (status_with_mpp w (nominal m) h.kept (nominal_fits m) (nominal_known m)) (guest_fits m) refl refl)
+    (status_with_field 39 1 one (guest m)
+    (status_with_mpp w (nominal m) h.kept (nominal_fits m) (nominal_known m))
+    (guest_fits m) refl refl)
     (bit_fits 3 w) refl refl)
     (lit< tt) refl refl
 
-pub entered_in_keeps : (to : Mode) (p : Priv) (from : Mode) (t : Trap) (pc value : ℕ) → IsPriv p → IsSmall t → pc < 2 ^ 64 → pc % 4 ≡ 0 → value < 2 ^ 64
+pub entered_in_keeps : (to : Mode) (p : Priv) (from : Mode) (t : Trap) (pc value : ℕ) → IsPriv p
+    → IsSmall t → pc < 2 ^ 64 → pc % 4 ≡ 0 → value < 2 ^ 64
     → IsPriv (entered_in to p from t pc value)
 entered_in_keeps M p from t pc value h small fits aligned s =
     let a = record p { mepc = pc } in
     let b = record a { mcause = cause_word t } in
     let c = record b { mtval = value } in
     let d = record c { mtval2 = 0 } in
-    let ha : IsPriv a = record { status = h.status; words = set 6 (keeps 0xFFFFFFFFFFFFFFFC pc) p (aligned_within pc fits aligned) h } in
-    let hb : IsPriv b = record { status = h.status; words = set 7 (keeps 0xFFFFFFFFFFFFFFFF (cause_word t)) a (full (cause_word t) (cause_fits t small)) ha } in
-    let hc : IsPriv c = record { status = h.status; words = set 8 (keeps 0xFFFFFFFFFFFFFFFF value) b (full value s) hb } in
-    let hd : IsPriv d = record { status = h.status; words = set 10 (keeps 0xFFFFFFFFFFFFFFFF 0) c refl hc } in
-    record { status = status_entered p.mstatus from h.status; words = set 9 (keeps 0xFFFFFFFFFFFFFFFF 0) d refl hd }
+    let ha : IsPriv a =
+    record {
+      status = h.status;
+      words =
+          set 6 (keeps 0xFFFFFFFFFFFFFFFC pc) p (aligned_within pc fits aligned) h;
+    } in
+    let hb : IsPriv b =
+    record {
+      status = h.status;
+      words =
+          set 7 (keeps 0xFFFFFFFFFFFFFFFF (cause_word t)) a
+          (full (cause_word t) (cause_fits t small)) ha;
+    } in
+    let hc : IsPriv c =
+    record {
+      status = h.status;
+      words =
+          set 8 (keeps 0xFFFFFFFFFFFFFFFF value) b (full value s) hb;
+    } in
+    let hd : IsPriv d =
+    record { status = h.status; words = set 10 (keeps 0xFFFFFFFFFFFFFFFF 0) c refl hc } in
+    record {
+      status = status_entered p.mstatus from h.status;
+      words =
+          set 9 (keeps 0xFFFFFFFFFFFFFFFF 0) d refl hd;
+    }
 entered_in_keeps S p from t pc value h small fits aligned s =
     let a = record p { sepc = pc } in
     let b = record a { scause = cause_word t } in
     let c = record b { stval = value } in
     let d = record c { htval = 0 } in
     let e = record d { htinst = 0 } in
-    let ha : IsPriv a = record { status = h.status; words = set 13 (keeps 0xFFFFFFFFFFFFFFFC pc) p (aligned_within pc fits aligned) h } in
-    let hb : IsPriv b = record { status = h.status; words = set 14 (keeps 0xFFFFFFFFFFFFFFFF (cause_word t)) a (full (cause_word t) (cause_fits t small)) ha } in
-    let hc : IsPriv c = record { status = h.status; words = set 15 (keeps 0xFFFFFFFFFFFFFFFF value) b (full value s) hb } in
-    let hd : IsPriv d = record { status = h.status; words = set 19 (keeps 0xFFFFFFFFFFFFFFFF 0) c refl hc } in
-    let he : IsPriv e = record { status = h.status; words = set 20 (keeps 0xFFFFFFFFFFFFFFFF 0) d refl hd } in
+    let ha : IsPriv a =
     record {
-      status = status_supervised p.mstatus (supervisor from) (field_of 1 1 p.mstatus) 0 h.status (supervisor_fits from) (bit_fits 1 p.mstatus) (lit< tt);
-      words = set 16 (keeps 0x180 (guest_left p.hstatus from)) e (hstatus_left p.hstatus from (is 16 p (lit< tt) h)) he;
+      status = h.status;
+      words =
+          set 13 (keeps 0xFFFFFFFFFFFFFFFC pc) p (aligned_within pc fits aligned) h;
+    } in
+    let hb : IsPriv b =
+    record {
+      status = h.status;
+      words =
+          set 14 (keeps 0xFFFFFFFFFFFFFFFF (cause_word t)) a
+          (full (cause_word t) (cause_fits t small)) ha;
+    } in
+    let hc : IsPriv c =
+    record {
+      status = h.status;
+      words =
+          set 15 (keeps 0xFFFFFFFFFFFFFFFF value) b (full value s) hb;
+    } in
+    let hd : IsPriv d =
+    record { status = h.status; words = set 19 (keeps 0xFFFFFFFFFFFFFFFF 0) c refl hc } in
+    let he : IsPriv e =
+    record { status = h.status; words = set 20 (keeps 0xFFFFFFFFFFFFFFFF 0) d refl hd } in
+    record {
+      status = status_supervised p.mstatus (supervisor from) (field_of 1 1 p.mstatus) 0 h.status
+          (supervisor_fits from) (bit_fits 1 p.mstatus) (lit< tt);
+      words = set 16 (keeps 0x180 (guest_left p.hstatus from)) e
+          (hstatus_left p.hstatus from (is 16 p (lit< tt) h)) he;
     }
 entered_in_keeps Vs p from t pc value h small fits aligned s =
-    let status = with_field 1 1 (with_field 5 1 (with_field 8 1 p.vsstatus (supervisor from)) (field_of 1 1 p.vsstatus)) 0 in
+    let status =
+    with_field 1 1
+    (with_field 5 1 (with_field 8 1 p.vsstatus (supervisor from))
+    (field_of 1 1 p.vsstatus)) 0 in
     let a = record p { vsepc = pc } in
     let b = record a { vscause = cause_word t } in
     let c = record b { vstval = value } in
-    let ha : IsPriv a = record { status = h.status; words = set 24 (keeps 0xFFFFFFFFFFFFFFFC pc) p (aligned_within pc fits aligned) h } in
-    let hb : IsPriv b = record { status = h.status; words = set 25 (keeps 0xFFFFFFFFFFFFFFFF (cause_word t)) a (full (cause_word t) (cause_fits t small)) ha } in
-    let hc : IsPriv c = record { status = h.status; words = set 26 (keeps 0xFFFFFFFFFFFFFFFF value) b (full value s) hb } in
+    let ha : IsPriv a =
+    record {
+      status = h.status;
+      words =
+          set 24 (keeps 0xFFFFFFFFFFFFFFFC pc) p (aligned_within pc fits aligned) h;
+    } in
+    let hb : IsPriv b =
+    record {
+      status = h.status;
+      words =
+          set 25 (keeps 0xFFFFFFFFFFFFFFFF (cause_word t)) a
+          (full (cause_word t) (cause_fits t small)) ha;
+    } in
+    let hc : IsPriv c =
+    record {
+      status = h.status;
+      words =
+          set 26 (keeps 0xFFFFFFFFFFFFFFFF value) b (full value s) hb;
+    } in
     record {
       status = h.status;
       words = set 21 (keeps 0x122 status) c
-          (within_supervised p.vsstatus (supervisor from) (field_of 1 1 p.vsstatus) 0 (is 21 p (lit< tt) h) (supervisor_fits from) (bit_fits 1 p.vsstatus) (lit< tt)) hc;
+          (within_supervised p.vsstatus (supervisor from) (field_of 1 1 p.vsstatus) 0
+          (is 21 p (lit< tt) h) (supervisor_fits from) (bit_fits 1 p.vsstatus) (lit< tt)) hc;
     }
 entered_in_keeps U p from t pc value h small fits aligned s = h
 entered_in_keeps Vu p from t pc value h small fits aligned s = h
@@ -196,9 +288,14 @@ left_keeps p Mret h =
     let one = with_field 3 1 w (field_of 7 1 w) in
     let two = with_field 7 1 one 1 in
     let three = with_field 11 2 two 0 in
-    let second : IsStatus two = status_with_field 7 1 one 1 (status_with_field 3 1 w (field_of 7 1 w) h.status (bit_fits 7 w) refl refl) (lit< tt) refl refl in
+    let second : IsStatus two =
+    status_with_field 7 1 one 1
+    (status_with_field 3 1 w (field_of 7 1 w) h.status (bit_fits 7 w) refl refl)
+    (lit< tt) refl refl in
     record {
-      status = status_with_field 39 1 three 0 (status_with_mpp two 0 second.kept (lit< tt) (λ e. absurd (omega (arith, e)))) (lit< tt) refl refl;
+      status = status_with_field 39 1 three 0
+          (status_with_mpp two 0 second.kept (lit< tt) (λ e. absurd (omega (arith, e))))
+          (lit< tt) refl refl;
       words = h.words;
     }
 left_keeps p SretHs h =
@@ -206,8 +303,12 @@ left_keeps p SretHs h =
     let one = with_field 1 1 w (field_of 5 1 w) in
     let two = with_field 5 1 one 1 in
     record {
-      status = status_with_field 8 1 two 0 (status_with_field 5 1 one 1 (status_with_field 1 1 w (field_of 5 1 w) h.status (bit_fits 5 w) refl refl) (lit< tt) refl refl) (lit< tt) refl refl;
-      words = set 16 (keeps 0x180 (with_field 7 1 p.hstatus 0)) p (put_stays_within 7 1 0x180 p.hstatus 0 (lit< tt) refl (is 16 p (lit< tt) h)) h;
+      status = status_with_field 8 1 two 0
+          (status_with_field 5 1 one 1
+          (status_with_field 1 1 w (field_of 5 1 w) h.status (bit_fits 5 w) refl refl)
+          (lit< tt) refl refl) (lit< tt) refl refl;
+      words = set 16 (keeps 0x180 (with_field 7 1 p.hstatus 0)) p
+          (put_stays_within 7 1 0x180 p.hstatus 0 (lit< tt) refl (is 16 p (lit< tt) h)) h;
     }
 left_keeps p SretVs h =
     let w = p.vsstatus in
@@ -216,11 +317,15 @@ left_keeps p SretVs h =
     record {
       status = h.status;
       words = set 21 (keeps 0x122 (with_field 8 1 two 0)) p
-          (put_stays_within 8 1 0x122 two 0 (lit< tt) refl (put_stays_within 5 1 0x122 one 1 (lit< tt) refl (put_stays_within 1 1 0x122 w (field_of 5 1 w) (bit_fits 5 w) refl (is 21 p (lit< tt) h)))) h;
+          (put_stays_within 8 1 0x122 two 0 (lit< tt) refl
+          (put_stays_within 5 1 0x122 one 1 (lit< tt) refl
+          (put_stays_within 1 1 0x122 w (field_of 5 1 w) (bit_fits 5 w) refl
+          (is 21 p (lit< tt) h)))) h;
     }
 
 pub epc_place : (pc : ℕ) → IsWithin 0xFFFFFFFFFFFFFFFC pc → IsPlace pc
-epc_place pc h = record { fits = small_within 0xFFFFFFFFFFFFFFFC pc (lit< tt) h; aligned = within_aligned pc h }
+epc_place pc h =
+    record { fits = small_within 0xFFFFFFFFFFFFFFFC pc (lit< tt) h; aligned = within_aligned pc h }
 
 pub return_place : ReturnPlace
 return_place p Mret h = epc_place p.mepc (is 6 p (lit< tt) h)

@@ -1,6 +1,6 @@
--- What the registers of a hart keep to, whatever its software does: mstatus is legal, and each other register has no
--- bit outside of its mask (Privileged Architecture, the register figures of each). That writes, interrupts, traps and
--- returns keep these facts is the law of this file.
+-- What the registers of a hart keep to, whatever its software does: mstatus is legal, and each
+-- other register has no bit outside of its mask (Privileged Architecture, the register figures of
+-- each). That writes, interrupts, traps and returns keep these facts is the law of this file.
 use Rattle.std.specs.Prelude.{ℕ, ◌≡◌, ◌%◌, ◌^◌, ◌<◌, List, [], ◌∷◌, bit_and, bit_or}
 use Rattle.std.specs.List.{All}
 use Rattle.ctr_csrs.specs.declared.mode.Mode.{Mode}
@@ -80,14 +80,18 @@ ReadFits = (number : ℕ) (p : Priv) → IsPriv p → read_of number p < 2 ^ 64
 
 -- interrupts that become pending, and pending ones that are cleared
 abbrev pub RaisedKeeps : Type 0
-RaisedKeeps = (p : Priv) (pending : ℕ) → IsWithin 0x2EEE pending → IsPriv p → IsPriv (record p { mip = bit_or p.mip pending })
+RaisedKeeps =
+    (p : Priv) (pending : ℕ) → IsWithin 0x2EEE pending → IsPriv p
+    → IsPriv (record p { mip = bit_or p.mip pending })
 
 abbrev pub ClearedKeeps : Type 0
 ClearedKeeps = (p : Priv) (part : ℕ) → IsPriv p → IsPriv (record p { mip = bit_and p.mip part })
 
 -- a trap, and the address of its handler
 abbrev pub EnteredKeeps : Type 0
-EnteredKeeps = (p : Priv) (from : Mode) (t : Trap) (pc value : ℕ) → IsPriv p → IsSmall t → pc < 2 ^ 64 → pc % 4 ≡ 0 → value < 2 ^ 64
+EnteredKeeps =
+    (p : Priv) (from : Mode) (t : Trap) (pc value : ℕ) → IsPriv p → IsSmall t → pc < 2 ^ 64
+    → pc % 4 ≡ 0 → value < 2 ^ 64
     → IsPriv (entered p from t pc value)
 
 abbrev pub HandlerPlace : Type 0

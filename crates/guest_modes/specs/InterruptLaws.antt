@@ -1,6 +1,6 @@
--- The numbers of interrupts stand once, in interrupt_order: the masks of mip and mie have their bits, and those of the
--- delegation registers have exceptions and interrupts alone (Privileged Architecture, "Machine Interrupt Registers",
--- "Machine Trap Delegation Registers", "Hypervisor Trap Delegation Registers").
+-- The numbers of interrupts stand once, in interrupt_order: the masks of mip and mie have their
+-- bits, and the mask of medeleg has those of the exceptions (Privileged Architecture, "Machine
+-- Interrupt Registers" and "Machine Trap Delegation Registers").
 use Rattle.std.specs.Prelude.{ℕ, ◌≡◌, ◌+◌, ◌^◌, ◌&&◌, not, nat_eq, IsTrue, List, [], ◌∷◌}
 use Rattle.guest_modes.specs.declared.causes.TheConstants.{ENVIRONMENT_CALL_FROM_M}
 use Rattle.guest_modes.specs.declared.targets.Trap.TheVariants.{Exception, Interrupt}
@@ -26,4 +26,5 @@ InterruptsWithin = (i : ℕ) → IsTrue (is_cause (Interrupt i)) → IsWithin 0x
 
 -- medeleg keeps a bit for each exception but a call from M
 abbrev pub DelegatesExceptions : Type 0
-DelegatesExceptions = (c : ℕ) → is_on 0x4007FF c ≡ (is_cause (Exception c) && not (nat_eq c ENVIRONMENT_CALL_FROM_M))
+DelegatesExceptions =
+    (c : ℕ) → is_on 0x4007FF c ≡ (is_cause (Exception c) && not (nat_eq c ENVIRONMENT_CALL_FROM_M))

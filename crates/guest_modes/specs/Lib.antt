@@ -1,5 +1,6 @@
--- What a reader must believe: Words, Registers, Fresh, Numbers, Gate, Traps, Entry, Returns and Interrupts, and the
--- statements of Views, StatusLaws, InterruptLaws and Facts. WordLemmas, RowFacts and FactLemmas have proofs that the crates above cite.
+-- What a reader must believe: Words, Registers, Fresh, Numbers, Gate, Traps, Entry, Returns and
+-- Interrupts, and the statements of Views, StatusLaws, InterruptLaws and Facts. WordLemmas,
+-- RowFacts and FactLemmas have proofs that the crates above cite.
 pub mod Words
 pub mod Fresh
 pub mod Registers

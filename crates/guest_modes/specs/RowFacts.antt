@@ -1,4 +1,5 @@
--- What reads and writes of registers by number keep of the facts of the registers: a line for each row.
+-- What reads and writes of registers by number keep of the facts of the registers: a line for each
+-- row.
 use Rattle.std.proofs.Common.{ℕ, ◌≡◌, ◌≢◌, ◌/◌, ◌%◌, ◌^◌, ◌<◌, Bool, true, false, cond, nat_eq, List, [], ◌∷◌, bit_and, bit_or, refl, sym, ◌∙◌, ap, arith, lit<}
 use Rattle.std.proofs.lemmas.Nat.{and_le_l, and_le_r, and_mask, or_lt}
 use Rattle.ctr_bits.specs.Field.{field_of, with_field}
@@ -31,7 +32,9 @@ pub small_or : (a b : ℕ) → a < 2 ^ 64 → b < 2 ^ 64 → bit_or a b < 2 ^ 64
 small_or a b p q = or_lt 64 a b p q
 
 pub small_lowered : (w : ℕ) → lowered w < 2 ^ 64
-small_lowered w = small_or (bit_and w 0x444 / 2) (bit_and w 0x2000) (omega (arith, and_le_r w 0x444)) (small_right w 0x2000 (lit< tt))
+small_lowered w =
+    small_or (bit_and w 0x444 / 2) (bit_and w 0x2000) (omega (arith, and_le_r w 0x444))
+    (small_right w 0x2000 (lit< tt))
 
 pub full : (w : ℕ) → w < 2 ^ 64 → IsWithin 0xFFFFFFFFFFFFFFFF w
 full w p =
@@ -45,11 +48,14 @@ is n p lt h = h.words n (keeps 0 0) lt
 pub set : (n : ℕ) (k : Kept) (p : Priv) → IsKept k → IsPriv p → All IsKept (slice_set (kept p) n k)
 set n k p fits h = All-set IsKept (kept p) n k fits h.words
 
--- a register at a place of the list, after a write of the bits of its mask, of a whole word, and of a part
-pub masked : (n mask : ℕ) (p : Priv) (v : ℕ) → IsPriv p → All IsKept (slice_set (kept p) n (keeps mask (bit_and v mask)))
+-- a register at a place of the list, after a write of the bits of its mask, of a whole word, and of
+-- a part
+pub masked : (n mask : ℕ) (p : Priv) (v : ℕ) → IsPriv p
+    → All IsKept (slice_set (kept p) n (keeps mask (bit_and v mask)))
 masked n mask p v h = set n (keeps mask (bit_and v mask)) p (mask_twice mask v) h
 
-pub whole : (n : ℕ) (p : Priv) (v : ℕ) → v < 2 ^ 64 → IsPriv p → All IsKept (slice_set (kept p) n (keeps 0xFFFFFFFFFFFFFFFF v))
+pub whole : (n : ℕ) (p : Priv) (v : ℕ) → v < 2 ^ 64 → IsPriv p
+    → All IsKept (slice_set (kept p) n (keeps 0xFFFFFFFFFFFFFFFF v))
 whole n p v fits h = set n (keeps 0xFFFFFFFFFFFFFFFF v) p (full v fits) h
 
 abbrev pub at : ℕ → Priv → Kept
@@ -59,7 +65,8 @@ pub merges : (n part : ℕ) (p : Priv) (v : ℕ) → n < 28 → bit_and part (at
     → All IsKept (slice_set (kept p) n (keeps (at n p).mask (merged part (at n p).word v)))
 merges n part p v lt wider h =
     let k = at n p in
-    set n (keeps k.mask (merged part k.word v)) p (merged_stays_within part k.mask k.word v wider (is n p lt h)) h
+    set n (keeps k.mask (merged part k.word v)) p
+    (merged_stays_within part k.mask k.word v wider (is n p lt h)) h
 
 pub small : (n : ℕ) (p : Priv) → n < 28 → (at n p).mask < 2 ^ 64 → IsPriv p → (at n p).word < 2 ^ 64
 small n p lt most h = small_within (at n p).mask (at n p).word most (is n p lt h)
@@ -79,14 +86,17 @@ pub all_of : {A : Type 0} (P : A → Type 0) (xs : List A) → Each P xs → All
 all_of P [] done = All-nil P
 all_of P (x ∷ xs) (here ⊕ later) = All-cons P x xs here (all_of P xs later)
 
-pub found_keeps : (rs : List Row) (n : ℕ) (other : Row) → Each RowKeeps rs → RowKeeps other → RowKeeps (row_in rs n other)
+pub found_keeps : (rs : List Row) (n : ℕ) (other : Row) → Each RowKeeps rs → RowKeeps other
+    → RowKeeps (row_in rs n other)
 found_keeps [] n other done h = h
-found_keeps (r ∷ rs) n other (keep ⊕ rest) h = either RowKeeps (nat_eq r.number n) r (row_in rs n other) keep (found_keeps rs n other rest h)
+found_keeps (r ∷ rs) n other (keep ⊕ rest) h =
+    either RowKeeps (nat_eq r.number n) r (row_in rs n other) keep (found_keeps rs n other rest h)
 
 pub fixed_keeps : (n v : ℕ) → v < 2 ^ 64 → RowKeeps (fixed n v)
 fixed_keeps n v small = record { writes = λ p w s h. h; reads = λ p h. small }
 
-pub status_either : (b : Bool) (kept new : ℕ) → (b ≡ false → IsStatus kept) → IsStatus new → IsStatus (cond b new kept)
+pub status_either : (b : Bool) (kept new : ℕ) → (b ≡ false → IsStatus kept) → IsStatus new
+    → IsStatus (cond b new kept)
 status_either true kept new off on = on
 status_either false kept new off on = off refl
 
@@ -102,19 +112,63 @@ status_is_written old v h =
 
 pub machine_keeps : Each RowKeeps machine_registers
 machine_keeps =
-    record { writes = λ p v s h. record { status = status_is_written p.mstatus v h.status; words = h.words }; reads = λ p h. small_or p.mstatus 0xA00000000 (small_within 0x80000019AA p.mstatus (lit< tt) h.status.kept) (lit< tt) }
+    record {
+      writes = λ p v s h. record {
+        status = status_is_written p.mstatus v h.status;
+        words = h.words;
+      };
+      reads = λ p h. small_or p.mstatus 0xA00000000
+          (small_within 0x80000019AA p.mstatus (lit< tt) h.status.kept) (lit< tt);
+    }
     ⊕ fixed_keeps 0x301 0x8000000000141180 (lit< tt)
-    ⊕ record { writes = λ p v s h. record { status = h.status; words = masked 0 0x4007FF p v h }; reads = λ p h. small 0 p (lit< tt) (lit< tt) h }
-    ⊕ record { writes = λ p v s h. record { status = h.status; words = masked 1 0x2222 p v h }; reads = λ p h. small_or p.mideleg 0x444 (small 1 p (lit< tt) (lit< tt) h) (lit< tt) }
-    ⊕ record { writes = λ p v s h. record { status = h.status; words = masked 2 0x2EEE p v h }; reads = λ p h. small 2 p (lit< tt) (lit< tt) h }
-    ⊕ record { writes = λ p v s h. record { status = h.status; words = masked 4 0xFFFFFFFFFFFFFFFD p v h }; reads = λ p h. small 4 p (lit< tt) (lit< tt) h }
-    ⊕ record { writes = λ p v s h. record { status = h.status; words = whole 5 p v s h }; reads = λ p h. small 5 p (lit< tt) (lit< tt) h }
-    ⊕ record { writes = λ p v s h. record { status = h.status; words = masked 6 0xFFFFFFFFFFFFFFFC p v h }; reads = λ p h. small 6 p (lit< tt) (lit< tt) h }
-    ⊕ record { writes = λ p v s h. record { status = h.status; words = whole 7 p v s h }; reads = λ p h. small 7 p (lit< tt) (lit< tt) h }
-    ⊕ record { writes = λ p v s h. record { status = h.status; words = whole 8 p v s h }; reads = λ p h. small 8 p (lit< tt) (lit< tt) h }
-    ⊕ record { writes = λ p v s h. record { status = h.status; words = merges 3 0x2226 p v (lit< tt) refl h }; reads = λ p h. small 3 p (lit< tt) (lit< tt) h }
-    ⊕ record { writes = λ p v s h. record { status = h.status; words = whole 9 p v s h }; reads = λ p h. small 9 p (lit< tt) (lit< tt) h }
-    ⊕ record { writes = λ p v s h. record { status = h.status; words = whole 10 p v s h }; reads = λ p h. small 10 p (lit< tt) (lit< tt) h }
+    ⊕ record {
+      writes = λ p v s h. record { status = h.status; words = masked 0 0x4007FF p v h };
+      reads = λ p h. small 0 p (lit< tt) (lit< tt) h;
+    }
+    ⊕ record {
+      writes = λ p v s h. record { status = h.status; words = masked 1 0x2222 p v h };
+      reads = λ p h. small_or p.mideleg 0x444 (small 1 p (lit< tt) (lit< tt) h) (lit< tt);
+    }
+    ⊕ record {
+      writes = λ p v s h. record { status = h.status; words = masked 2 0x2EEE p v h };
+      reads = λ p h. small 2 p (lit< tt) (lit< tt) h;
+    }
+    ⊕ record {
+      writes = λ p v s h. record { status = h.status; words = masked 4 0xFFFFFFFFFFFFFFFD p v h };
+      reads = λ p h. small 4 p (lit< tt) (lit< tt) h;
+    }
+    ⊕ record {
+      writes = λ p v s h. record { status = h.status; words = whole 5 p v s h };
+      reads = λ p h. small 5 p (lit< tt) (lit< tt) h;
+    }
+    ⊕ record {
+      writes = λ p v s h. record { status = h.status; words = masked 6 0xFFFFFFFFFFFFFFFC p v h };
+      reads = λ p h. small 6 p (lit< tt) (lit< tt) h;
+    }
+    ⊕ record {
+      writes = λ p v s h. record { status = h.status; words = whole 7 p v s h };
+      reads = λ p h. small 7 p (lit< tt) (lit< tt) h;
+    }
+    ⊕ record {
+      writes = λ p v s h. record { status = h.status; words = whole 8 p v s h };
+      reads = λ p h. small 8 p (lit< tt) (lit< tt) h;
+    }
+    ⊕ record {
+      writes = λ p v s h. record {
+        status = h.status;
+        words =
+            merges 3 0x2226 p v (lit< tt) refl h;
+      };
+      reads = λ p h. small 3 p (lit< tt) (lit< tt) h;
+    }
+    ⊕ record {
+      writes = λ p v s h. record { status = h.status; words = whole 9 p v s h };
+      reads = λ p h. small 9 p (lit< tt) (lit< tt) h;
+    }
+    ⊕ record {
+      writes = λ p v s h. record { status = h.status; words = whole 10 p v s h };
+      reads = λ p h. small 10 p (lit< tt) (lit< tt) h;
+    }
     ⊕ fixed_keeps 0xF11 0 (lit< tt)
     ⊕ fixed_keeps 0xF12 0 (lit< tt)
     ⊕ fixed_keeps 0xF13 0 (lit< tt)
@@ -124,40 +178,132 @@ machine_keeps =
 
 pub supervisor_keeps : Each RowKeeps supervisor_registers
 supervisor_keeps =
-    record { writes = λ p v s h. record { status = status_in_part p.mstatus v h.status; words = h.words }; reads = λ p h. small_or (bit_and p.mstatus 0x122) 0x200000000 (small_right p.mstatus 0x122 (lit< tt)) (lit< tt) }
-    ⊕ record { writes = λ p v s h. record { status = h.status; words = merges 2 (bit_and p.mideleg 0x2222) p v (lit< tt) (under_part 0x2EEE 0x2222 p.mideleg refl) h }; reads = λ p h. small_left p.mie (bit_and p.mideleg 0x2222) (small 2 p (lit< tt) (lit< tt) h) }
-    ⊕ record { writes = λ p v s h. record { status = h.status; words = merges 3 (bit_and p.mideleg 0x2002) p v (lit< tt) (under_part 0x2EEE 0x2002 p.mideleg refl) h }; reads = λ p h. small_left p.mip (bit_and p.mideleg 0x2222) (small 3 p (lit< tt) (lit< tt) h) }
-    ⊕ record { writes = λ p v s h. record { status = h.status; words = masked 11 0xFFFFFFFFFFFFFFFD p v h }; reads = λ p h. small 11 p (lit< tt) (lit< tt) h }
-    ⊕ record { writes = λ p v s h. record { status = h.status; words = whole 12 p v s h }; reads = λ p h. small 12 p (lit< tt) (lit< tt) h }
-    ⊕ record { writes = λ p v s h. record { status = h.status; words = masked 13 0xFFFFFFFFFFFFFFFC p v h }; reads = λ p h. small 13 p (lit< tt) (lit< tt) h }
-    ⊕ record { writes = λ p v s h. record { status = h.status; words = whole 14 p v s h }; reads = λ p h. small 14 p (lit< tt) (lit< tt) h }
-    ⊕ record { writes = λ p v s h. record { status = h.status; words = whole 15 p v s h }; reads = λ p h. small 15 p (lit< tt) (lit< tt) h }
+    record {
+      writes = λ p v s h. record { status = status_in_part p.mstatus v h.status; words = h.words };
+      reads = λ p h. small_or (bit_and p.mstatus 0x122) 0x200000000
+          (small_right p.mstatus 0x122 (lit< tt)) (lit< tt);
+    }
+    ⊕ record {
+      writes = λ p v s h. record {
+        status = h.status;
+        words =
+            merges 2 (bit_and p.mideleg 0x2222) p v (lit< tt)
+            (under_part 0x2EEE 0x2222 p.mideleg refl) h;
+      };
+      reads = λ p h. small_left p.mie (bit_and p.mideleg 0x2222) (small 2 p (lit< tt) (lit< tt) h);
+    }
+    ⊕ record {
+      writes = λ p v s h. record {
+        status = h.status;
+        words =
+            merges 3 (bit_and p.mideleg 0x2002) p v (lit< tt)
+            (under_part 0x2EEE 0x2002 p.mideleg refl) h;
+      };
+      reads = λ p h. small_left p.mip (bit_and p.mideleg 0x2222) (small 3 p (lit< tt) (lit< tt) h);
+    }
+    ⊕ record {
+      writes = λ p v s h. record { status = h.status; words = masked 11 0xFFFFFFFFFFFFFFFD p v h };
+      reads = λ p h. small 11 p (lit< tt) (lit< tt) h;
+    }
+    ⊕ record {
+      writes = λ p v s h. record { status = h.status; words = whole 12 p v s h };
+      reads = λ p h. small 12 p (lit< tt) (lit< tt) h;
+    }
+    ⊕ record {
+      writes = λ p v s h. record { status = h.status; words = masked 13 0xFFFFFFFFFFFFFFFC p v h };
+      reads = λ p h. small 13 p (lit< tt) (lit< tt) h;
+    }
+    ⊕ record {
+      writes = λ p v s h. record { status = h.status; words = whole 14 p v s h };
+      reads = λ p h. small 14 p (lit< tt) (lit< tt) h;
+    }
+    ⊕ record {
+      writes = λ p v s h. record { status = h.status; words = whole 15 p v s h };
+      reads = λ p h. small 15 p (lit< tt) (lit< tt) h;
+    }
     ⊕ fixed_keeps 0x180 0 (lit< tt)
     ⊕ done
 
 pub hypervisor_keeps : Each RowKeeps hypervisor_registers
 hypervisor_keeps =
-    record { writes = λ p v s h. record { status = h.status; words = masked 16 0x180 p v h }; reads = λ p h. small_or p.hstatus 0x200000000 (small 16 p (lit< tt) (lit< tt) h) (lit< tt) }
-    ⊕ record { writes = λ p v s h. record { status = h.status; words = masked 17 0x1FF p v h }; reads = λ p h. small 17 p (lit< tt) (lit< tt) h }
-    ⊕ record { writes = λ p v s h. record { status = h.status; words = masked 18 0x2444 p v h }; reads = λ p h. small 18 p (lit< tt) (lit< tt) h }
-    ⊕ record { writes = λ p v s h. record { status = h.status; words = merges 2 0x444 p v (lit< tt) refl h }; reads = λ p h. small_right p.mie 0x444 (lit< tt) }
-    ⊕ record { writes = λ p v s h. record { status = h.status; words = merges 3 0x4 p v (lit< tt) refl h }; reads = λ p h. small_right p.mip 0x444 (lit< tt) }
-    ⊕ record { writes = λ p v s h. record { status = h.status; words = merges 3 0x444 p v (lit< tt) refl h }; reads = λ p h. small_right p.mip 0x444 (lit< tt) }
-    ⊕ record { writes = λ p v s h. record { status = h.status; words = whole 19 p v s h }; reads = λ p h. small 19 p (lit< tt) (lit< tt) h }
-    ⊕ record { writes = λ p v s h. record { status = h.status; words = whole 20 p v s h }; reads = λ p h. small 20 p (lit< tt) (lit< tt) h }
+    record {
+      writes = λ p v s h. record { status = h.status; words = masked 16 0x180 p v h };
+      reads = λ p h. small_or p.hstatus 0x200000000 (small 16 p (lit< tt) (lit< tt) h) (lit< tt);
+    }
+    ⊕ record {
+      writes = λ p v s h. record { status = h.status; words = masked 17 0x1FF p v h };
+      reads = λ p h. small 17 p (lit< tt) (lit< tt) h;
+    }
+    ⊕ record {
+      writes = λ p v s h. record { status = h.status; words = masked 18 0x2444 p v h };
+      reads = λ p h. small 18 p (lit< tt) (lit< tt) h;
+    }
+    ⊕ record {
+      writes = λ p v s h. record { status = h.status; words = merges 2 0x444 p v (lit< tt) refl h };
+      reads = λ p h. small_right p.mie 0x444 (lit< tt);
+    }
+    ⊕ record {
+      writes = λ p v s h. record { status = h.status; words = merges 3 0x4 p v (lit< tt) refl h };
+      reads = λ p h. small_right p.mip 0x444 (lit< tt);
+    }
+    ⊕ record {
+      writes = λ p v s h. record { status = h.status; words = merges 3 0x444 p v (lit< tt) refl h };
+      reads = λ p h. small_right p.mip 0x444 (lit< tt);
+    }
+    ⊕ record {
+      writes = λ p v s h. record { status = h.status; words = whole 19 p v s h };
+      reads = λ p h. small 19 p (lit< tt) (lit< tt) h;
+    }
+    ⊕ record {
+      writes = λ p v s h. record { status = h.status; words = whole 20 p v s h };
+      reads = λ p h. small 20 p (lit< tt) (lit< tt) h;
+    }
     ⊕ fixed_keeps 0x680 0 (lit< tt)
     ⊕ done
 
 pub virtual_keeps : Each RowKeeps virtual_registers
 virtual_keeps =
-    record { writes = λ p v s h. record { status = h.status; words = masked 21 0x122 p v h }; reads = λ p h. small_or p.vsstatus 0x200000000 (small 21 p (lit< tt) (lit< tt) h) (lit< tt) }
-    ⊕ record { writes = λ p v s h. record { status = h.status; words = merges 2 (shown p) p (lifted v) (lit< tt) (shown_within p) h }; reads = λ p h. small_lowered (bit_and p.mie (shown p)) }
-    ⊕ record { writes = λ p v s h. record { status = h.status; words = merges 3 (bit_and (shown p) 0x2004) p (lifted v) (lit< tt) (under_part 0x2EEE 0x2004 (shown p) refl) h }; reads = λ p h. small_lowered (bit_and p.mip (shown p)) }
-    ⊕ record { writes = λ p v s h. record { status = h.status; words = masked 22 0xFFFFFFFFFFFFFFFD p v h }; reads = λ p h. small 22 p (lit< tt) (lit< tt) h }
-    ⊕ record { writes = λ p v s h. record { status = h.status; words = whole 23 p v s h }; reads = λ p h. small 23 p (lit< tt) (lit< tt) h }
-    ⊕ record { writes = λ p v s h. record { status = h.status; words = masked 24 0xFFFFFFFFFFFFFFFC p v h }; reads = λ p h. small 24 p (lit< tt) (lit< tt) h }
-    ⊕ record { writes = λ p v s h. record { status = h.status; words = whole 25 p v s h }; reads = λ p h. small 25 p (lit< tt) (lit< tt) h }
-    ⊕ record { writes = λ p v s h. record { status = h.status; words = whole 26 p v s h }; reads = λ p h. small 26 p (lit< tt) (lit< tt) h }
+    record {
+      writes = λ p v s h. record { status = h.status; words = masked 21 0x122 p v h };
+      reads = λ p h. small_or p.vsstatus 0x200000000 (small 21 p (lit< tt) (lit< tt) h) (lit< tt);
+    }
+    ⊕ record {
+      writes = λ p v s h. record {
+        status = h.status;
+        words =
+            merges 2 (shown p) p (lifted v) (lit< tt) (shown_within p) h;
+      };
+      reads = λ p h. small_lowered (bit_and p.mie (shown p));
+    }
+    ⊕ record {
+      writes = λ p v s h. record {
+        status = h.status;
+        words =
+            merges 3 (bit_and (shown p) 0x2004) p (lifted v) (lit< tt)
+            (under_part 0x2EEE 0x2004 (shown p) refl) h;
+      };
+      reads = λ p h. small_lowered (bit_and p.mip (shown p));
+    }
+    ⊕ record {
+      writes = λ p v s h. record { status = h.status; words = masked 22 0xFFFFFFFFFFFFFFFD p v h };
+      reads = λ p h. small 22 p (lit< tt) (lit< tt) h;
+    }
+    ⊕ record {
+      writes = λ p v s h. record { status = h.status; words = whole 23 p v s h };
+      reads = λ p h. small 23 p (lit< tt) (lit< tt) h;
+    }
+    ⊕ record {
+      writes = λ p v s h. record { status = h.status; words = masked 24 0xFFFFFFFFFFFFFFFC p v h };
+      reads = λ p h. small 24 p (lit< tt) (lit< tt) h;
+    }
+    ⊕ record {
+      writes = λ p v s h. record { status = h.status; words = whole 25 p v s h };
+      reads = λ p h. small 25 p (lit< tt) (lit< tt) h;
+    }
+    ⊕ record {
+      writes = λ p v s h. record { status = h.status; words = whole 26 p v s h };
+      reads = λ p h. small 26 p (lit< tt) (lit< tt) h;
+    }
     ⊕ fixed_keeps 0x280 0 (lit< tt)
     ⊕ done
 
@@ -169,7 +315,8 @@ row_keeps number =
     let supervised = row_in supervisor_registers number hypervisor in
     found_keeps machine_registers number supervised machine_keeps
     (found_keeps supervisor_registers number hypervisor supervisor_keeps
-    (found_keeps hypervisor_registers number virtual hypervisor_keeps (found_keeps virtual_registers number none virtual_keeps (fixed_keeps number 0 (lit< tt)))))
+    (found_keeps hypervisor_registers number virtual hypervisor_keeps
+    (found_keeps virtual_registers number none virtual_keeps (fixed_keeps number 0 (lit< tt)))))
 
 pub written_keeps : WrittenKeeps
 written_keeps number v p s h = (row_keeps number).writes p v s h

@@ -1,6 +1,7 @@
--- The status registers after a trap and after a return, bit by bit: each bit is an old one, a constant, or the mode
--- (Privileged Architecture, "Privilege and Global Interrupt-Enable Stack in mstatus register", "Hypervisor Status
--- Register", "Virtual Supervisor Status Register", "Trap Entry" and "Trap Return" of the hypervisor extension).
+-- The status registers after a trap and after a return, bit by bit: each bit is an old one, a
+-- constant, or the mode (Privileged Architecture, "Privilege and Global Interrupt-Enable Stack in
+-- mstatus register", "Hypervisor Status Register", "Virtual Supervisor Status Register", "Trap
+-- Entry" and "Trap Return" of the hypervisor extension).
 use Rattle.std.specs.Prelude.{ℕ, ◌≡◌, ◌≢◌, Bool, true, false, ◌||◌, cond, IsTrue}
 use Rattle.std.specs.Int.{bit_at}
 use Rattle.ctr_csrs.specs.declared.mode.Mode.{Mode}
@@ -32,7 +33,8 @@ is_supervisor U = false
 is_supervisor Vs = true
 is_supervisor Vu = false
 
--- mstatus after a trap into M: MIE 3, MPIE 7, MPP 12:11 (3 for M, 1 for S and VS, 0 for U and VU) and MPV 39
+-- mstatus after a trap into M: MIE 3, MPIE 7, MPP 12:11 (3 for M, 1 for S and VS, 0 for U and VU)
+-- and MPV 39
 pub record MachineEntry (from : Mode) (old new : ℕ) : Type 0 where
   pub enable : bit_at new 3 ≡ 0
   pub previous_enable : bit_at new 7 ≡ bit_at old 3
@@ -57,15 +59,22 @@ pub record HypervisorEntry (from : Mode) (old new : ℕ) : Type 0 where
 
 -- the three of them after a trap into a mode
 abbrev pub StatusesEntered : Mode → Mode → Priv → Priv → Type 0
-StatusesEntered M from old new = MachineEntry from old.mstatus new.mstatus × (new.hstatus ≡ old.hstatus) × (new.vsstatus ≡ old.vsstatus)
+StatusesEntered M from old new =
+    MachineEntry from old.mstatus new.mstatus × (new.hstatus ≡ old.hstatus)
+    × (new.vsstatus ≡ old.vsstatus)
 StatusesEntered S from old new =
-    SupervisorEntry from old.mstatus new.mstatus × HypervisorEntry from old.hstatus new.hstatus × (new.vsstatus ≡ old.vsstatus)
-StatusesEntered Vs from old new = (new.mstatus ≡ old.mstatus) × (new.hstatus ≡ old.hstatus) × SupervisorEntry from old.vsstatus new.vsstatus
+    SupervisorEntry from old.mstatus new.mstatus × HypervisorEntry from old.hstatus new.hstatus
+    × (new.vsstatus ≡ old.vsstatus)
+StatusesEntered Vs from old new =
+    (new.mstatus ≡ old.mstatus) × (new.hstatus ≡ old.hstatus)
+    × SupervisorEntry from old.vsstatus new.vsstatus
 StatusesEntered U from old new = new ≡ old
 StatusesEntered Vu from old new = new ≡ old
 
 abbrev pub EntryBits : Type 0
-EntryBits = (p : Priv) (from : Mode) (t : Trap) (pc value : ℕ) → StatusesEntered (target_of p from t) from p (entered p from t pc value)
+EntryBits =
+    (p : Priv) (from : Mode) (t : Trap) (pc value : ℕ)
+    → StatusesEntered (target_of p from t) from p (entered p from t pc value)
 
 -- mstatus after MRET
 pub record MachineReturn (old new : ℕ) : Type 0 where
@@ -90,9 +99,15 @@ pub record HypervisorReturn (old new : ℕ) : Type 0 where
 
 -- the three of them after a return
 abbrev pub StatusesLeft : Ret → Priv → Priv → Type 0
-StatusesLeft Mret old new = MachineReturn old.mstatus new.mstatus × (new.hstatus ≡ old.hstatus) × (new.vsstatus ≡ old.vsstatus)
-StatusesLeft SretHs old new = SupervisorReturn old.mstatus new.mstatus × HypervisorReturn old.hstatus new.hstatus × (new.vsstatus ≡ old.vsstatus)
-StatusesLeft SretVs old new = (new.mstatus ≡ old.mstatus) × (new.hstatus ≡ old.hstatus) × SupervisorReturn old.vsstatus new.vsstatus
+StatusesLeft Mret old new =
+    MachineReturn old.mstatus new.mstatus × (new.hstatus ≡ old.hstatus)
+    × (new.vsstatus ≡ old.vsstatus)
+StatusesLeft SretHs old new =
+    SupervisorReturn old.mstatus new.mstatus × HypervisorReturn old.hstatus new.hstatus
+    × (new.vsstatus ≡ old.vsstatus)
+StatusesLeft SretVs old new =
+    (new.mstatus ≡ old.mstatus) × (new.hstatus ≡ old.hstatus)
+    × SupervisorReturn old.vsstatus new.vsstatus
 
 abbrev pub ReturnBits : Type 0
 ReturnBits = (p : Priv) (r : Ret) → StatusesLeft r p (left p r)
@@ -107,6 +122,8 @@ return_from Vu = SretVs
 
 -- it goes back to the mode and the address that the trap came from
 abbrev pub ReturnGoesBack : Type 0
-ReturnGoesBack = (p : Priv) (from : Mode) (t : Trap) (pc value : ℕ) → IsTrue (is_trap_between from (target_of p from t))
+ReturnGoesBack =
+    (p : Priv) (from : Mode) (t : Trap) (pc value : ℕ)
+    → IsTrue (is_trap_between from (target_of p from t))
     → (mode_after (entered p from t pc value) (return_from (target_of p from t)) ≡ from)
     × (pc_after (entered p from t pc value) (return_from (target_of p from t)) ≡ pc)

@@ -1,5 +1,5 @@
-//! Numbers of exceptions and interrupts (RISC-V Privileged Architecture, "Machine Cause Register", and the hypervisor
-//! extension's table of causes).
+//! Numbers of exceptions and interrupts (RISC-V Privileged Architecture, "Machine Cause Register",
+//! and the hypervisor extension's table of causes).
 
 /// A jump or a taken branch to an address that isn't a multiple of 4.
 pub const INSTRUCTION_ADDRESS_MISALIGNED: u8 = 0;
@@ -42,3 +42,6 @@ pub const VIRTUAL_INSTRUCTION: u8 = 22;
 
 /// The interrupt of a counter that overflows.
 pub const LOCAL_COUNTER_OVERFLOW: u8 = 13;
+
+// A bit for each interrupt: what mip and mie keep.
+pub(crate) const INTERRUPTS: u64 = 0x2EEE;

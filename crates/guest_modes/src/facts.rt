@@ -4,7 +4,8 @@ ghost use Rattle.guest_modes.specs.Words.{IsWithin, IsStatus};
 
 use crate::registers::Priv;
 
-/// Whatever software does, mstatus stays legal and each other register within its mask: a proof and no work.
+/// Whatever software does, mstatus stays legal and each other register within its mask: a proof and
+/// no work.
 pub fn fact_laws()
     ensures written_keeps { WrittenKeeps }
     ensures read_fits { ReadFits }

@@ -4,9 +4,18 @@ ghost use Rattle.guest_modes.specs.Interrupts.{allows, is_candidate, first_for, 
 ghost use Rattle.guest_modes.specs.Numbers.{is_in};
 ghost use Rattle.guest_modes.specs.Traps.{interrupt_order, interrupt_taker, is_same, is_cause, is_trap_between};
 
+use crate::causes::INTERRUPTS;
 use crate::registers::Priv;
 use crate::targets::{Trap, has, trap_target};
 use ctr_csrs::Mode;
+
+/// Whether the number is that of an interrupt (RISC-V Privileged Architecture, "Machine Interrupt
+/// Registers").
+pub fn is_interrupt(number: u8) -> bool
+    ensures { result ≡ is_in number interrupt_order }
+{
+    number < 64 && has(INTERRUPTS, number)
+}
 
 /// The number of the interrupt that is taken while the hart runs in `mode`, or `None` where none can be taken (RISC-V
 /// Privileged Architecture, "Machine Interrupt Registers" and "Hypervisor Interrupt Registers").

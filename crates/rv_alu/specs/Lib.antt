@@ -1,4 +1,5 @@
--- What a reader must believe: Signed, Division, Value and Holds, and the statements of Laws. Sizes ties them to words.
+-- What a reader must believe: Signed, Division, Value and Holds, and the statements of Laws. Sizes
+-- ties them to words.
 pub mod Signed
 pub mod Division
 pub mod Value

@@ -58,8 +58,10 @@ mag_quot (negsuc a) (negsuc b) = omega (arith, div-le_self (suc a) (suc b))
 pub high_half : (n : ℕ) → n < 2 ^ 128 → n / 2 ^ 64 < 2 ^ 64
 high_half n p = omega (arith, p)
 
-pub mag_product : (a b : ℤ) (m n : ℕ) → unsigned_abs a ≤ m → unsigned_abs b ≤ n → mag (a *ℤ b) ≤ m * n
-mag_product a b m n p q = omega (arith, mag_below_abs (a *ℤ b), unsigned_abs-mul a b, mul-le-mul p q)
+pub mag_product : (a b : ℤ) (m n : ℕ) → unsigned_abs a ≤ m → unsigned_abs b ≤ n
+    → mag (a *ℤ b) ≤ m * n
+mag_product a b m n p q =
+    omega (arith, mag_below_abs (a *ℤ b), unsigned_abs-mul a b, mul-le-mul p q)
 
 pub product_below : (a b m n : ℕ) → a ≤ m → b ≤ n → a * b ≤ m * n
 product_below a b m n p q = mul-le-mul p q
@@ -72,7 +74,9 @@ value_fits Slt a b p q = choice_fits (int_lt (signed a) (signed b)) 1 0 (lit< tt
 value_fits Sltu a b p q = choice_fits (ltb a b) 1 0 (lit< tt) (lit< tt)
 value_fits Xor a b p q = xor_lt 64 a b p q
 value_fits Srl a b p q = omega (arith, div-le_self a (2 ^ (b % 64)), p)
-value_fits Sra a b p q = word_fits (int_shr (signed a) (b % 64)) (omega (arith, mag_shr (signed a) (2 ^ (b % 64)), mag_signed a p))
+value_fits Sra a b p q =
+    word_fits (int_shr (signed a) (b % 64))
+    (omega (arith, mag_shr (signed a) (2 ^ (b % 64)), mag_signed a p))
 value_fits Or a b p q = or_lt 64 a b p q
 value_fits And a b p q = omega (arith, and_le_l a b, p)
 value_fits Addw a b p q = wide_fits ((low_32 a + low_32 b) % 2 ^ 32)
@@ -80,23 +84,47 @@ value_fits Subw a b p q = wide_fits ((low_32 a + (2 ^ 32 - low_32 b)) % 2 ^ 32)
 value_fits Sllw a b p q = wide_fits (low_32 a * 2 ^ (b % 32) % 2 ^ 32)
 value_fits Srlw a b p q = wide_fits (low_32 a / 2 ^ (b % 32))
 value_fits Sraw a b p q =
-    word_fits (int_shr (signed_32 (low_32 a)) (b % 32)) (omega (arith, mag_shr (signed_32 (low_32 a)) (2 ^ (b % 32)), mag_signed_32 (low_32 a) (mod_below a (2 ^ 32) (lit< tt))))
+    word_fits (int_shr (signed_32 (low_32 a)) (b % 32))
+    (omega (
+      arith,
+      mag_shr (signed_32 (low_32 a)) (2 ^ (b % 32)),
+      mag_signed_32 (low_32 a)
+          (mod_below a (2 ^ 32) (lit< tt)),
+    ))
 value_fits Mul a b p q = mod_below (a * b) (2 ^ 64) (lit< tt)
 value_fits Mulh a b p q =
     high_half (cast_unsigned w128 (signed a *ℤ signed b))
-    (double_fits (signed a *ℤ signed b) (omega (arith, mag_product (signed a) (signed b) (2 ^ 63) (2 ^ 63) (abs_signed a p) (abs_signed b q))))
+    (double_fits (signed a *ℤ signed b)
+    (omega (
+      arith,
+      mag_product (signed a) (signed b) (2 ^ 63) (2 ^ 63) (abs_signed a p)
+          (abs_signed b q),
+    )))
 value_fits Mulhsu a b p q =
     high_half (cast_unsigned w128 (signed a *ℤ pos b))
-    (double_fits (signed a *ℤ pos b) (omega (arith, mag_product (signed a) (pos b) (2 ^ 63) (2 ^ 64) (abs_signed a p) (omega (arith, q)))))
+    (double_fits (signed a *ℤ pos b)
+    (omega (
+      arith,
+      mag_product (signed a) (pos b) (2 ^ 63) (2 ^ 64) (abs_signed a p)
+          (omega (arith, q)),
+    )))
 value_fits Mulhu a b p q =
-    high_half (a * b) (omega (arith, product_below a b (2 ^ 64 - 1) (2 ^ 64 - 1) (omega (arith, p)) (omega (arith, q))))
+    high_half (a * b)
+    (omega (
+      arith,
+      product_below a b (2 ^ 64 - 1) (2 ^ 64 - 1) (omega (arith, p))
+          (omega (arith, q)),
+    ))
 value_fits Div a b p q =
     choice_fits (nat_eq b 0) (2 ^ 64 - 1) (word (int_div (signed a) (signed b))) (lit< tt)
-    (word_fits (int_div (signed a) (signed b)) (omega (arith, mag_quot (signed a) (signed b), mag_signed a p)))
-value_fits Divu a b p q = choice_fits (nat_eq b 0) (2 ^ 64 - 1) (a / b) (lit< tt) (omega (arith, div-le_self a b, p))
+    (word_fits (int_div (signed a) (signed b))
+    (omega (arith, mag_quot (signed a) (signed b), mag_signed a p)))
+value_fits Divu a b p q =
+    choice_fits (nat_eq b 0) (2 ^ 64 - 1) (a / b) (lit< tt) (omega (arith, div-le_self a b, p))
 value_fits Rem a b p q =
     choice_fits (nat_eq b 0) a (word (int_rem (signed a) (signed b))) p
-    (word_fits (int_rem (signed a) (signed b)) (omega (arith, mag_rem (signed a) (signed b), mag_signed a p)))
+    (word_fits (int_rem (signed a) (signed b))
+    (omega (arith, mag_rem (signed a) (signed b), mag_signed a p)))
 value_fits Remu a b p q = choice_fits (nat_eq b 0) a (a % b) p (omega (arith, p))
 value_fits Mulw a b p q = wide_fits (low_32 a * low_32 b % 2 ^ 32)
 value_fits Divw a b p q = wide_fits (quotient_32 (low_32 a) (low_32 b))

@@ -1,4 +1,5 @@
-// The values are those that bench/alu_edges.py prints: it computes them on whole numbers.
+// The operations of the Unprivileged ISA, RV64I and the extension M. The values are those that
+// bench/alu_edges.py prints: it computes them on whole numbers.
 use crate::{apply, division_laws, product_laws, size_laws, taken};
 use rv_decode::{AluOp, Cond};
 
@@ -296,7 +297,8 @@ fn divisions_round_toward_zero_and_refuse_nothing(rt: HostRuntime) {
     }
 }
 
-// Unprivileged ISA, extension M: the answers by zero and of the quotient that doesn't fit, and upper halves.
+// Unprivileged ISA, extension M: the answers by zero and of the quotient that doesn't fit, and
+// upper halves.
 #[test]
 fn the_answers_that_the_manual_lists_apart(rt: HostRuntime) {
     for (op, a, b, want) in [

@@ -1,5 +1,5 @@
--- What a row gives has its numbers in range: each register is a field of five bits, the number of a CSR one of twelve,
--- and each immediate a field or an extended one.
+-- What a row gives has its numbers in range: each register is a field of five bits, the number of a
+-- CSR one of twelve, and each immediate a field or an extended one.
 use Rattle.std.proofs.Common.{ℕ, ◌≡◌, ◌+◌, ◌*◌, ◌<◌, ◌≤◌, ◌/◌, ◌^◌, List, [], ◌∷◌, Option, None, Some, IfSome, refl, sym, subst, inl, inr, arith}
 use Rattle.std.proofs.lemmas.Nat.{mod_below, pow_pos}
 use Rattle.ctr_bits.specs.Field.{field_of}
@@ -27,20 +27,21 @@ pub imm_i_fits : (w : ℕ) → imm_i_of w < 2 ^ 64
 imm_i_fits w = extended_fits 12 (field_of 20 12 w) (omega arith) (omega arith)
 
 pub imm_s_fits : (w : ℕ) → imm_s_of w < 2 ^ 64
-imm_s_fits w = extended_fits 12 (field_of 25 7 w * 2 ^ 5 + field_of 7 5 w) (omega arith) (omega arith)
+imm_s_fits w =
+    extended_fits 12 (field_of 25 7 w * 2 ^ 5 + field_of 7 5 w) (omega arith) (omega arith)
 
 pub imm_b_fits : (w : ℕ) → imm_b_of w < 2 ^ 64
 imm_b_fits w =
-    extended_fits 13 (field_of 31 1 w * 2 ^ 12 + field_of 7 1 w * 2 ^ 11 + field_of 25 6 w * 2 ^ 5 + field_of 8 4 w * 2)
-    (omega arith) (omega arith)
+    let high = field_of 31 1 w * 2 ^ 12 + field_of 7 1 w * 2 ^ 11 in
+    extended_fits 13 (high + field_of 25 6 w * 2 ^ 5 + field_of 8 4 w * 2) (omega arith) (omega arith)
 
 pub imm_u_fits : (w : ℕ) → imm_u_of w < 2 ^ 64
 imm_u_fits w = extended_fits 32 (field_of 12 20 w * 2 ^ 12) (omega arith) (omega arith)
 
 pub imm_j_fits : (w : ℕ) → imm_j_of w < 2 ^ 64
 imm_j_fits w =
-    extended_fits 21 (field_of 31 1 w * 2 ^ 20 + field_of 12 8 w * 2 ^ 12 + field_of 20 1 w * 2 ^ 11 + field_of 21 10 w * 2)
-    (omega arith) (omega arith)
+    let high = field_of 31 1 w * 2 ^ 20 + field_of 12 8 w * 2 ^ 12 in
+    extended_fits 21 (high + field_of 20 1 w * 2 ^ 11 + field_of 21 10 w * 2) (omega arith) (omega arith)
 
 pub table_fits : (w : ℕ) → AllFit table w
 table_fits w =
@@ -79,7 +80,8 @@ pub found_fits : (w : ℕ) (found : Option Instr) → found ≡ decoded w → If
 found_fits w None e = tt
 found_fits w (Some i) e = rows_fit w i (decoded_row w i (sym e))
 
-pub found_words_fit : (w : ℕ) (found : Option Instr) → found ≡ decoded w → IfSome found (λ i. WordsFit i)
+pub found_words_fit : (w : ℕ) (found : Option Instr) → found ≡ decoded w
+    → IfSome found (λ i. WordsFit i)
 found_words_fit w None e = tt
 found_words_fit w (Some i) e = row_words_fit w i (decoded_row w i (sym e))
 

@@ -295,6 +295,38 @@ fn a_word_beside_each_row_is_no_instruction(rt: HostRuntime) {
     }
 }
 
+// A word of an opcode, by its 1,024 pairs of funct7 and funct3, with other fields than the single
+// words have.
+fn word_of(opcode: u32, pair: u32) -> u32 {
+    opcode | (pair % 8) << 12 | (pair / 8) << 25 | 0x0031_0080 // x3, x2 and x1
+}
+
+// Counted by hand from the manual's listing. Opcode 73 has its 768 by funct3 1, 2, 3, 5, 6 and 7;
+// the single words have other registers.
+#[test]
+fn each_opcode_takes_so_many_pairs_of_funct7_and_funct3(rt: HostRuntime) {
+    for opcode in 0..128 {
+        let want = match opcode {
+            0x37 | 0x17 | 0x6F => 1024,
+            0x67 => 128,
+            0x63 => 768,
+            0x03 => 896,
+            0x23 => 512,
+            0x13 => 774,
+            0x1B => 131,
+            0x33 => 18,
+            0x3B => 10,
+            0x0F => 256,
+            0x73 => 768,
+            _ => 0,
+        };
+        let taken = (0..1024)
+            .filter(|pair| decode(word_of(opcode, *pair)).is_some())
+            .count();
+        assert_eq!(rt; taken, want, "opcode {opcode:x}");
+    }
+}
+
 #[test]
 fn the_laws_do_no_work(rt: HostRuntime) {
     table_laws();

@@ -1,5 +1,6 @@
-//! Transfer types of RISC-V Control Transfer Records 1.0: which jump, branch or return is of which type, and
-//! which of them the static predictor of this project misses. Stands on the instructions of `rv_decode`.
+//! Transfer types of RISC-V Control Transfer Records 1.0: which jump, branch or return is of which
+//! type, and which of them the static predictor of this project misses. Stands on the instructions
+//! of `rv_decode`.
 #![tactic(auto)]
 
 mod class;
@@ -7,7 +8,7 @@ mod prediction;
 mod types;
 
 pub use class::class_of;
-pub use prediction::missed;
+pub use prediction::{missed, prediction_laws};
 pub use types::XferType;
 
 #[cfg(test)]

@@ -1,6 +1,8 @@
-use crate::{XferType, class_of, missed};
+use crate::{XferType, class_of, missed, prediction_laws};
 use rv_decode::{AluOp, Cond, CsrArg, CsrOp, Instr, Width, decode};
 
+// RISC-V Control Transfer Records 1.0, transfer types, for this test and those below; the link
+// registers are those of the Unprivileged ISA, "Unconditional Jumps".
 #[test]
 fn the_destination_of_a_jal_decides_its_type(rt: HostRuntime) {
     for (rd, want) in [
@@ -120,7 +122,8 @@ fn code_of_word(word: u32) -> Option<u8> {
     Some(transfer.code())
 }
 
-// RISC-V Control Transfer Records 1.0, transfer types; the words are those of the base formats I and J.
+// RISC-V Control Transfer Records 1.0, transfer types; the words are those of the base formats I
+// and J.
 #[test]
 fn the_words_of_jumps_have_the_types_of_their_registers(rt: HostRuntime) {
     for (word, want) in [
@@ -162,6 +165,7 @@ fn a_branch_is_missed_where_it_goes_another_way_than_its_offset(rt: HostRuntime)
     ] {
         assert_eq!(rt; missed(instr, taken), want, "{instr:?}, taken {taken}");
     }
+    prediction_laws();
 }
 
 #[test]

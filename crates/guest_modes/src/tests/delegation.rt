@@ -1,5 +1,8 @@
-use super::{delegating, is_interrupt};
-use crate::{Trap, pick_interrupt, trap_target, write_csr};
+//! Which mode takes a trap, and which interrupt comes (Privileged Architecture, "Machine Trap
+//! Delegation Registers", "Hypervisor Trap Delegation Registers", "Machine Interrupt Registers").
+
+use super::delegating;
+use crate::{Trap, is_interrupt, pick_interrupt, trap_target, write_csr};
 use ctr_csrs::Mode;
 
 #[test]

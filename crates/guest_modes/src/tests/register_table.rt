@@ -1,3 +1,7 @@
+//! The registers by number (Privileged Architecture, the register figures of "Machine-Level ISA",
+//! "Supervisor-Level ISA" and "Hypervisor Extension"), and the gate ("CSR Address Mapping
+//! Conventions", "Hypervisor and Virtual Supervisor CSRs").
+
 use super::{ONES, delegating};
 use crate::{CsrFault, Priv, gate, is_register, privilege_laws, read_csr, write_csr};
 use ctr_csrs::Mode;

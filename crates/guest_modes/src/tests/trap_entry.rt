@@ -1,7 +1,10 @@
-use super::{ONES, delegating, is_interrupt};
+//! Traps and returns (Privileged Architecture, "Trap Entry" and "Trap Return" of the hypervisor
+//! extension; "Machine Trap-Vector Base-Address Register" and its forms of S and VS).
+
+use super::{ONES, delegating};
 use crate::{
-    Priv, Ret, Trap, enter_trap, is_register, leave_trap, pick_interrupt, read_csr, trap_target,
-    write_csr,
+    Priv, Ret, Trap, enter_trap, is_interrupt, is_register, leave_trap, pick_interrupt, read_csr,
+    trap_target, write_csr,
 };
 use ctr_csrs::Mode;
 
