@@ -168,7 +168,7 @@ fn narrowed(fault: ScheduleFault) -> CommandFault
 }
 
 // A refusal of `command` among those of the whole schedule.
-fn widen(fault: CommandFault) -> ScheduleFault
+pub(crate) fn widen(fault: CommandFault) -> ScheduleFault
     ensures { result ≡ widened fault }
 {
     match fault {
