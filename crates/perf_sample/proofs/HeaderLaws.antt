@@ -1,13 +1,13 @@
 -- The header of a sample, which comes first.
-use Rattle.std.proofs.Common.{◌≡◌, ℕ, ◌-◌, ◌^◌, ◌<◌, List, [], ◌∷◌, ◌++◌, length, false, nat_eq, Option, Some, None, refl, sym, ap, ◌∙◌, arith, length-append, append_assoc, append-nil, lt-ltb, inl, inr}
+use Rattle.std.proofs.Common.{◌≡◌, ℕ, ◌-◌, ◌^◌, ◌<◌, List, [], ◌∷◌, ◌++◌, map, length, false, nat_eq, Option, Some, None, refl, sym, ap, ◌∙◌, arith, length-append, append_assoc, append-nil, lt-ltb, inl, inr}
 use Rattle.std.proofs.lemmas.Bool.{ne_eqb, eq-eqb}
 use Rattle.std.proofs.lemmas.List.{drop_all}
 use Rattle.std.specs.Io.KnownBytes.{Consumes, IsAtEnd}
 use Rattle.std.specs.List.{flat_map}
 use Rattle.ctr_port.specs.InHand.{Of}
-use Rattle.perf_sample.specs.Layout.{LayoutWords, fixed_len}
+use Rattle.perf_sample.specs.Layout.{LayoutWords, all_fields, fields_in, nr_at}
 use Rattle.perf_sample.specs.Spelling.{le}
-use Rattle.perf_sample.specs.Breaks.{number_at, is_size, Header, At, rows, row_fields, branch_fields, fields_of, first_break, wrong_in, unless, Breaks}
+use Rattle.perf_sample.specs.Breaks.{number_at, is_size, Header, At, branch_fields, fields_of, first_break, wrong_in, unless, Breaks}
 use Rattle.perf_sample.specs.Reading.{cut_at, IsPartial}
 use Rattle.perf_sample.specs.declared.faults.SampleFault.{SampleFault}
 use Rattle.perf_sample.specs.declared.faults.SampleFault.TheVariants as fault
@@ -37,7 +37,7 @@ pub header_cut : (layout : LayoutWords) (x : List ℕ) → length x < 8 → firs
 unfolding first_break fields_of
 header_cut layout x short =
     let cut : cut_at Header x ≡ Some (fault.Header, []) = rw (lt-ltb (length x) 8 short) (ap (λ (t : List ℕ). Some (fault.Header, t)) (drop_all 8 x (omega (arith, short)))) in
-    cut_first layout (number_at 6 2 x) Header (flat_map (row_fields layout) rows ++ At place.Nr ∷ branch_fields 0 (number_at (fixed_len layout - 8) 8 x)) x (fault.Header, []) cut
+    cut_first layout (number_at 6 2 x) Header (map At (fields_in layout all_fields) ++ branch_fields 0 (number_at (nr_at layout) 8 x)) x (fault.Header, []) cut
 
 -- a header that is wrong
 header_stops : (layout : LayoutWords) (kind misc size : ℕ) (z : List ℕ) (f : SampleFault) → kind < 2 ^ 32 → size < 2 ^ 16 → unless (nat_eq kind 9) fault.Kind (unless (is_size layout size) fault.Size None) ≡ Some f
@@ -50,7 +50,7 @@ header_stops layout kind misc size z f small_kind small_size wrong =
     record {
       some = not_empty y z (omega (arith, length_header kind misc size));
       first =
-          stops layout (number_at 6 2 at) Header (flat_map (row_fields layout) rows ++ At place.Nr ∷ branch_fields 0 (number_at (fixed_len layout - 8) 8 at)) y z f
+          stops layout (number_at 6 2 at) Header (map At (fields_in layout all_fields) ++ branch_fields 0 (number_at (nr_at layout) 8 at)) y z f
           (length_header kind misc size) seen;
     }
 

@@ -4,6 +4,7 @@ pub mod BreakLaws
 pub mod NumberLaws
 pub mod BranchLaws
 pub mod HeaderLaws
+pub mod FieldLaws
 pub mod RowLaws
 pub mod SampleLaws
 pub mod OneSpelling

@@ -1,21 +1,26 @@
 -- Bytes begin with the spelling of one sample at most, and then they have no break.
 use Rattle.std.proofs.Common.{◌≡◌, ℕ, ◌+◌, ◌*◌, ◌-◌, ◌%◌, ◌^◌, ◌<◌, ◌≤◌, List, [], ◌∷◌, ◌++◌, length, take, drop, Bool, true, false, if◌then◌else◌, nat_le, nat_eq, None, refl, sym, ap, ◌∙◌, arith, append_assoc, length-append}
 use Rattle.std.proofs.Math.Seq.{take-append_seam, drop-append_seam}
-use Rattle.std.proofs.lemmas.Bool.{le-leb, eq-eqb}
+use Rattle.std.proofs.lemmas.Bool.{le-leb, eq-eqb, true≢false}
 use Rattle.std.proofs.lemmas.List.Elements.{All-head, All-tail}
-use Rattle.std.specs.List.{All, flat_map}
+use Rattle.std.specs.List.{All, AllByRecursion, flat_map}
 use Rattle.perf_sample.specs.declared.sample.Branch.{Branch}
 use Rattle.perf_sample.specs.declared.sample.Sample.{Sample}
-use Rattle.perf_sample.specs.Layout.{LayoutWords, has, fixed_len, LeftOut, Fits}
-use Rattle.perf_sample.specs.Spelling.{le, present, fields, branch_bytes, spelling, Spells}
+use Rattle.perf_sample.specs.Layout.{LayoutWords, has, all_fields, fields_in, fixed_len, LeftOut, Fits}
+use Rattle.perf_sample.specs.Words.{word_of, IsZero, InWidth}
+use Rattle.perf_sample.specs.Spelling.{le, word_bytes, place_bytes, fields_bytes, header_bytes, branch_bytes, size_of, spelling, Spells}
 use Rattle.perf_sample.specs.Breaks.{number_at, is_size, first_of, first_break, branch_fields}
 use Rattle.perf_sample.specs.BranchRange.{IsBranch}
 use Rattle.perf_sample.specs.Range.{IsSample}
-use Rattle.perf_sample.specs.Reading.{header_bytes}
+use Rattle.perf_sample.specs.Rows.{low_of, high_of, SameWord}
+use Rattle.perf_sample.specs.declared.words.Word.{Word}
+use Rattle.perf_sample.specs.declared.words.Word.TheVariants as word
+use Rattle.perf_sample.specs.declared.faults.Place.{Place}
 use Rattle.perf_sample.proofs.BreakLaws.{length_le, number_read}
 use Rattle.perf_sample.proofs.BranchLaws.{branches_pass}
-use Rattle.perf_sample.proofs.SampleLaws.{behind_nr}
-use Rattle.perf_sample.proofs.SpellingLaws.{size_of, length_one, length_two, length_fields, length_branches, length_spelling, fixed_most, size_at, length_told, size_stays}
+use Rattle.perf_sample.proofs.SampleLaws.{with_nr, index_bytes, behind_index, spelling_parts}
+use Rattle.perf_sample.proofs.FieldLaws.{length_word, length_fields}
+use Rattle.perf_sample.proofs.SpellingLaws.{length_branches, length_spelling, fixed_most, size_at, length_told, size_stays}
 
 -- the size of a sample is one that a sample may have
 right_size : (layout : LayoutWords) (nr : ℕ) → nr ≤ 256 → is_size layout (fixed_len layout + 24 * nr) ≡ true
@@ -28,17 +33,17 @@ right_size layout nr few =
 
 -- a spelling has no break
 pub spelled_whole : (layout : LayoutWords) (s : Sample) (x z : List ℕ) → Spells layout s x → first_break layout (x ++ z) ≡ None
-unfolding spelling first_of branch_fields
+unfolding first_of branch_fields
 spelled_whole layout s x z spells =
     let bs = s.branches in
     let nr = length bs in
     let size = size_of layout s in
-    let y = (header_bytes s.misc size ++ fields layout s) ++ le 8 nr in
+    let y = with_nr layout s.misc size nr s ++ index_bytes layout s in
     let small : size < 2 ^ 16 = omega (arith, fixed_most layout, spells.few) in
     let count : nr ≡ nr + 0 = omega arith in
-    ap (λ (b : List ℕ). first_break layout (b ++ z)) spells.bytes_are
+    ap (λ (b : List ℕ). first_break layout (b ++ z)) (spells.bytes_are ∙ spelling_parts layout s)
     ∙ ap (first_break layout) (append_assoc y (flat_map branch_bytes bs) z)
-    ∙ behind_nr layout s.misc size nr s (flat_map branch_bytes bs ++ z) small (right_size layout nr spells.few) spells.few refl
+    ∙ behind_index layout s.misc size nr s s (flat_map branch_bytes bs ++ z) small (right_size layout nr spells.few) spells.few refl
     ∙ ap (λ (n : ℕ). first_of layout size (branch_fields 0 n) (flat_map branch_bytes bs ++ z)) count
     ∙ branches_pass layout size 0 0 bs z spells.fits.flags
 
@@ -56,25 +61,55 @@ cut_back a b c d len e = cut_front a b c d (omega (arith, len, ap length e, leng
 le_same : (k m n : ℕ) → m < 256 ^ k → n < 256 ^ k → le k m ≡ le k n → m ≡ n
 le_same k m n hm hn e = sym (number_read k m [] hm) ∙ ap (λ (b : List ℕ). number_at 0 k (b ++ [])) e ∙ number_read k n [] hn
 
-one_by : (b : Bool) (m n : ℕ) → (b ≡ false → m ≡ 0) → (b ≡ false → n ≡ 0) → m < 2 ^ 64 → n < 2 ^ 64 → (if b then le 8 m else []) ≡ (if b then le 8 n else []) → m ≡ n
-one_by true m n offm offn hm hn e = le_same 8 m n hm hn e
-one_by false m n offm offn hm hn e = offm refl ∙ sym (offn refl)
+-- words of the same form, told by their bytes
+abbrev is_whole : Word → Bool
+is_whole (word.Whole n) = true
+is_whole (word.Halves m n) = false
 
-one_same : (layout : LayoutWords) (place m n : ℕ) → LeftOut layout place m → LeftOut layout place n → m < 2 ^ 64 → n < 2 ^ 64 → present layout place (le 8 m) ≡ present layout place (le 8 n) → m ≡ n
-one_same layout place m n offm offn hm hn e = one_by (has layout place) m n offm offn hm hn e
-
-two_by : (b : Bool) (m n p q : ℕ) → (b ≡ false → m ≡ 0) → (b ≡ false → n ≡ 0) → (b ≡ false → p ≡ 0) → (b ≡ false → q ≡ 0) → m < 2 ^ 32 → n < 2 ^ 32 → p < 2 ^ 32 → q < 2 ^ 32
-    → (if b then le 4 m ++ le 4 n else []) ≡ (if b then le 4 p ++ le 4 q else []) → (m ≡ p) × (n ≡ q)
-two_by true m n p q offm offn offp offq hm hn hp hq e =
+word_same : (w v : Word) → is_whole w ≡ is_whole v → InWidth w → InWidth v → word_bytes w ≡ word_bytes v → w ≡ v
+word_same (word.Whole m) (word.Whole n) form is it e = ap word.Whole (le_same 8 m n is it e)
+word_same (word.Whole m) (word.Halves p q) form is it e = absurd (true≢false form)
+word_same (word.Halves m n) (word.Whole p) form is it e = absurd (true≢false (sym form))
+word_same (word.Halves m n) (word.Halves p q) form (m_is, n_is) (p_is, q_is) e =
     let parts = cut_front (le 4 m) (le 4 p) (le 4 n) (le 4 q) (length_le 4 m ∙ sym (length_le 4 p)) e in
-    (le_same 4 m p hm hp parts.0, le_same 4 n q hn hq parts.1)
-two_by false m n p q offm offn offp offq hm hn hp hq e = (offm refl ∙ sym (offp refl), offn refl ∙ sym (offq refl))
+    ap (λ (k : ℕ). word.Halves k n) (le_same 4 m p m_is p_is parts.0) ∙ ap (word.Halves p) (le_same 4 n q n_is q_is parts.1)
+
+both_zero : (w v : Word) → is_whole w ≡ is_whole v → IsZero w → IsZero v → w ≡ v
+both_zero (word.Whole m) (word.Whole n) form a b = ap word.Whole (a ∙ sym b)
+both_zero (word.Whole m) (word.Halves p q) form a b = absurd (true≢false form)
+both_zero (word.Halves m n) (word.Whole p) form a b = absurd (true≢false (sym form))
+both_zero (word.Halves m n) (word.Halves p q) form (a, b) (c, d) =
+    ap (λ (k : ℕ). word.Halves k n) (a ∙ sym c) ∙ ap (word.Halves p) (b ∙ sym d)
+
+abbrev SameForm : Sample → Sample → Place → Type 0
+SameForm s t p = is_whole (word_of p s) ≡ is_whole (word_of p t)
+
+-- samples with the same bytes have the same words
+words_same : (layout : LayoutWords) (s t : Sample) (ps : List Place) → AllByRecursion (SameForm s t) ps
+    → AllByRecursion (LeftOut layout s) ps → AllByRecursion (LeftOut layout t) ps
+    → AllByRecursion (λ p. InWidth (word_of p s)) ps → AllByRecursion (λ p. InWidth (word_of p t)) ps
+    → fields_bytes s (fields_in layout ps) ≡ fields_bytes t (fields_in layout ps) → AllByRecursion (SameWord s t) ps
+unfolding fields_in
+words_same layout s t [] form f g is it e = tt
+words_same layout s t (p ∷ ps) (form, forms) (f, fs) (g, gs) (is, iss) (it, its) e =
+    let rest = fields_in layout ps in
+    elim (has layout p) as (λ (b : Bool).
+    (b ≡ false → IsZero (word_of p s)) → (b ≡ false → IsZero (word_of p t))
+    → fields_bytes s (if b then p ∷ rest else rest) ≡ fields_bytes t (if b then p ∷ rest else rest)
+    → SameWord s t p × AllByRecursion (SameWord s t) ps) [
+      | true ↦ λ f g e.
+          let parts = cut_front (place_bytes p s) (place_bytes p t) (fields_bytes s rest) (fields_bytes t rest)
+          (length_word (word_of p s) ∙ sym (length_word (word_of p t))) e in
+          (word_same (word_of p s) (word_of p t) form is it parts.0, words_same layout s t ps forms fs gs iss its parts.1)
+      | false ↦ λ f g e.
+          (both_zero (word_of p s) (word_of p t) form (f refl) (g refl), words_same layout s t ps forms fs gs iss its e)
+    ] f g e
 
 abbrev pub the_branch : ℕ → ℕ → ℕ → Branch
 the_branch from to flags = record { from = from; to = to; flags = flags }
 
-abbrev pub the_sample : ℕ → ℕ → ℕ → ℕ → ℕ → ℕ → ℕ → ℕ → ℕ → ℕ → ℕ → List Branch → Sample
-the_sample misc identifier ip pid tid time addr id stream_id cpu period branches = record {
+abbrev the_sample : ℕ → ℕ → ℕ → ℕ → ℕ → ℕ → ℕ → ℕ → ℕ → ℕ → ℕ → ℕ → List Branch → Sample
+the_sample misc identifier ip pid tid time addr id stream_id cpu period hw_index branches = record {
   misc = misc;
   identifier = identifier;
   ip = ip;
@@ -86,65 +121,9 @@ the_sample misc identifier ip pid tid time addr id stream_id cpu period branches
   stream_id = stream_id;
   cpu = cpu;
   period = period;
+  hw_index = hw_index;
   branches = branches;
 }
-
--- what the fields between header and number of branches tell
-record SameFields (s t : Sample) : Type 0 where
-  identifier : s.identifier ≡ t.identifier
-  ip : s.ip ≡ t.ip
-  pid : s.pid ≡ t.pid
-  tid : s.tid ≡ t.tid
-  time : s.time ≡ t.time
-  addr : s.addr ≡ t.addr
-  id : s.id ≡ t.id
-  stream_id : s.stream_id ≡ t.stream_id
-  cpu : s.cpu ≡ t.cpu
-  period : s.period ≡ t.period
-
-fields_same : (layout : LayoutWords) (s t : Sample) → Fits layout s → Fits layout t → IsSample s → IsSample t → fields layout s ≡ fields layout t → SameFields s t
-unfolding fields
-fields_same layout s t f g is it e =
-    let a_s = present layout 16 (le 8 s.identifier) in
-    let b_s = present layout 0 (le 8 s.ip) in
-    let c_s = present layout 1 (le 4 s.pid ++ le 4 s.tid) in
-    let d_s = present layout 2 (le 8 s.time) in
-    let e_s = present layout 3 (le 8 s.addr) in
-    let f_s = present layout 6 (le 8 s.id) in
-    let g_s = present layout 9 (le 8 s.stream_id) in
-    let h_s = present layout 7 (le 4 s.cpu ++ le 4 0) in
-    let i_s = present layout 8 (le 8 s.period) in
-    let a_t = present layout 16 (le 8 t.identifier) in
-    let b_t = present layout 0 (le 8 t.ip) in
-    let c_t = present layout 1 (le 4 t.pid ++ le 4 t.tid) in
-    let d_t = present layout 2 (le 8 t.time) in
-    let e_t = present layout 3 (le 8 t.addr) in
-    let f_t = present layout 6 (le 8 t.id) in
-    let g_t = present layout 9 (le 8 t.stream_id) in
-    let h_t = present layout 7 (le 4 t.cpu ++ le 4 0) in
-    let i_t = present layout 8 (le 8 t.period) in
-    let pi = cut_back (a_s ++ b_s ++ c_s ++ d_s ++ e_s ++ f_s ++ g_s ++ h_s) (a_t ++ b_t ++ c_t ++ d_t ++ e_t ++ f_t ++ g_t ++ h_t) i_s i_t (length_one layout 8 s.period ∙ sym (length_one layout 8 t.period)) e in
-    let ph = cut_back (a_s ++ b_s ++ c_s ++ d_s ++ e_s ++ f_s ++ g_s) (a_t ++ b_t ++ c_t ++ d_t ++ e_t ++ f_t ++ g_t) h_s h_t (length_two layout 7 s.cpu 0 ∙ sym (length_two layout 7 t.cpu 0)) pi.0 in
-    let pg = cut_back (a_s ++ b_s ++ c_s ++ d_s ++ e_s ++ f_s) (a_t ++ b_t ++ c_t ++ d_t ++ e_t ++ f_t) g_s g_t (length_one layout 9 s.stream_id ∙ sym (length_one layout 9 t.stream_id)) ph.0 in
-    let pf = cut_back (a_s ++ b_s ++ c_s ++ d_s ++ e_s) (a_t ++ b_t ++ c_t ++ d_t ++ e_t) f_s f_t (length_one layout 6 s.id ∙ sym (length_one layout 6 t.id)) pg.0 in
-    let pe = cut_back (a_s ++ b_s ++ c_s ++ d_s) (a_t ++ b_t ++ c_t ++ d_t) e_s e_t (length_one layout 3 s.addr ∙ sym (length_one layout 3 t.addr)) pf.0 in
-    let pd = cut_back (a_s ++ b_s ++ c_s) (a_t ++ b_t ++ c_t) d_s d_t (length_one layout 2 s.time ∙ sym (length_one layout 2 t.time)) pe.0 in
-    let pc = cut_back (a_s ++ b_s) (a_t ++ b_t) c_s c_t (length_two layout 1 s.pid s.tid ∙ sym (length_two layout 1 t.pid t.tid)) pd.0 in
-    let pb = cut_back a_s a_t b_s b_t (length_one layout 0 s.ip ∙ sym (length_one layout 0 t.ip)) pc.0 in
-    let task = two_by (has layout 1) s.pid s.tid t.pid t.tid f.pid f.tid g.pid g.tid is.pid is.tid it.pid it.tid pc.1 in
-    let hart = two_by (has layout 7) s.cpu 0 t.cpu 0 f.cpu (λ off. refl) g.cpu (λ off. refl) is.cpu (omega arith) it.cpu (omega arith) ph.1 in
-    record {
-      identifier = one_same layout 16 s.identifier t.identifier f.identifier g.identifier is.identifier it.identifier pb.0;
-      ip = one_same layout 0 s.ip t.ip f.ip g.ip is.ip it.ip pb.1;
-      pid = task.0;
-      tid = task.1;
-      time = one_same layout 2 s.time t.time f.time g.time is.time it.time pd.1;
-      addr = one_same layout 3 s.addr t.addr f.addr g.addr is.addr it.addr pe.1;
-      id = one_same layout 6 s.id t.id f.id g.id is.id it.id pf.1;
-      stream_id = one_same layout 9 s.stream_id t.stream_id f.stream_id g.stream_id is.stream_id it.stream_id pg.1;
-      cpu = hart.0;
-      period = one_same layout 8 s.period t.period f.period g.period is.period it.period pi.1;
-    }
 
 branch_same : (b c : Branch) (x y : List ℕ) → IsBranch b → IsBranch c → branch_bytes b ++ x ≡ branch_bytes c ++ y → (b ≡ c) × (x ≡ y)
 branch_same b c x y is it e =
@@ -180,11 +159,23 @@ branches_same (b ∷ bs) (c ∷ cs) len is it e =
     let rest = branches_same bs cs (omega (arith, len)) (All-tail IsBranch b bs is) (All-tail IsBranch c cs it) first.1 in
     ap (λ (x : Branch). x ∷ bs) first.0 ∙ ap (λ (l : List Branch). c ∷ l) rest
 
-sample_same : (s t : Sample) → s.misc ≡ t.misc → SameFields s t → s.branches ≡ t.branches → s ≡ t
-sample_same s t misc same branches =
-    let made : the_sample s.misc s.identifier s.ip s.pid s.tid s.time s.addr s.id s.stream_id s.cpu s.period s.branches
-    ≡ the_sample t.misc t.identifier t.ip t.pid t.tid t.time t.addr t.id t.stream_id t.cpu t.period t.branches =
-    rw (misc, same.identifier, same.ip, same.pid, same.tid, same.time, same.addr, same.id, same.stream_id, same.cpu, same.period, branches) refl in made
+-- a sample is its misc, its words and its branches
+sample_same : (s t : Sample) → s.misc ≡ t.misc → AllByRecursion (SameWord s t) all_fields → s.branches ≡ t.branches → s ≡ t
+sample_same s t misc (a, (b, (c, (d, (e, (f, (g, (h, (i, (n, (x, all))))))))))) branches =
+    let ia : s.identifier ≡ t.identifier = ap low_of a in
+    let ib : s.ip ≡ t.ip = ap low_of b in
+    let ic : s.pid ≡ t.pid = ap low_of c in
+    let jc : s.tid ≡ t.tid = ap high_of c in
+    let id : s.time ≡ t.time = ap low_of d in
+    let ie : s.addr ≡ t.addr = ap low_of e in
+    let if_ : s.id ≡ t.id = ap low_of f in
+    let ig : s.stream_id ≡ t.stream_id = ap low_of g in
+    let ih : s.cpu ≡ t.cpu = ap low_of h in
+    let ii : s.period ≡ t.period = ap low_of i in
+    let ix : s.hw_index ≡ t.hw_index = ap low_of x in
+    let made : the_sample s.misc s.identifier s.ip s.pid s.tid s.time s.addr s.id s.stream_id s.cpu s.period s.hw_index s.branches
+    ≡ the_sample t.misc t.identifier t.ip t.pid t.tid t.time t.addr t.id t.stream_id t.cpu t.period t.hw_index t.branches =
+    rw (misc, ia, ib, ic, jc, id, ie, if_, ig, ih, ii, ix, branches) refl in made
 
 -- samples with the same spelling are the same
 spelling_same : (layout : LayoutWords) (s t : Sample) → Fits layout s → Fits layout t → IsSample s → IsSample t → length s.branches ≤ 256 → length t.branches ≤ 256 → spelling layout s ≡ spelling layout t → s ≡ t
@@ -196,15 +187,15 @@ spelling_same layout s t f g is it few less e =
     let counts : length s.branches ≡ length t.branches = omega (arith, sizes) in
     let h_s = header_bytes s.misc size in
     let h_t = header_bytes t.misc other in
-    let n1 = le 8 (length s.branches) in
-    let n2 = le 8 (length t.branches) in
+    let all = fields_in layout all_fields in
     let stacks : length (flat_map branch_bytes s.branches) ≡ length (flat_map branch_bytes t.branches) = omega (arith, length_branches s.branches, length_branches t.branches, counts) in
-    let last = cut_back ((h_s ++ fields layout s) ++ n1) ((h_t ++ fields layout t) ++ n2) (flat_map branch_bytes s.branches) (flat_map branch_bytes t.branches) stacks e in
-    let third = cut_back (h_s ++ fields layout s) (h_t ++ fields layout t) n1 n2 (length_le 8 (length s.branches) ∙ sym (length_le 8 (length t.branches))) last.0 in
-    let second = cut_back h_s h_t (fields layout s) (fields layout t) (length_fields layout s ∙ sym (length_fields layout t)) third.0 in
+    let last = cut_back (h_s ++ fields_bytes s all) (h_t ++ fields_bytes t all) (flat_map branch_bytes s.branches) (flat_map branch_bytes t.branches) stacks e in
+    let second = cut_back h_s h_t (fields_bytes s all) (fields_bytes t all) (length_fields s all ∙ sym (length_fields t all)) last.0 in
     let first = cut_back (le 4 9 ++ le 2 s.misc) (le 4 9 ++ le 2 t.misc) (le 2 size) (le 2 other) (length_le 2 size ∙ sym (length_le 2 other)) second.0 in
     let misc = cut_front (le 4 9) (le 4 9) (le 2 s.misc) (le 2 t.misc) refl first.0 in
-    sample_same s t (le_same 2 s.misc t.misc is.misc it.misc misc.1) (fields_same layout s t f g is it second.1) (branches_same s.branches t.branches counts is.branches it.branches last.1)
+    let forms : AllByRecursion (SameForm s t) all_fields = (refl, (refl, (refl, (refl, (refl, (refl, (refl, (refl, (refl, (refl, (refl, tt))))))))))) in
+    sample_same s t (le_same 2 s.misc t.misc is.misc it.misc misc.1) (words_same layout s t all_fields forms f.left_out g.left_out is.fields it.fields second.1)
+    (branches_same s.branches t.branches counts is.branches it.branches last.1)
 
 -- bytes begin with one spelling at most
 pub one_length : (layout : LayoutWords) (s t : Sample) (x y z w : List ℕ) → Spells layout s x → Spells layout t y → x ++ z ≡ y ++ w → (x ≡ y) × (z ≡ w)

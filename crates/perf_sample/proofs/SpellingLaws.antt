@@ -7,56 +7,10 @@ use Rattle.byteorder.specs.Endian.{little_number}
 use Rattle.byteorder.specs.Numbers.{length-bytes_low_first, little_number-reads_back, little_from-append}
 use Rattle.perf_sample.specs.declared.sample.Branch.{Branch}
 use Rattle.perf_sample.specs.declared.sample.Sample.{Sample}
-use Rattle.perf_sample.specs.Layout.{LayoutWords, has, width, fields_len, fixed_len}
-use Rattle.perf_sample.specs.Spelling.{le, present, fields, branch_bytes, spelling, Spells}
-
-length_le : (k n : ℕ) → length (le k n) ≡ k
-unfolding le
-length_le k n = length-bytes_low_first 0 k n
-
--- a field of eight bytes, there or left out
-length_present : (layout : LayoutWords) (place : ℕ) (bytes : List ℕ) → length bytes ≡ 8 → length (present layout place bytes) ≡ width layout place
-length_present layout place bytes e =
-    elim (has layout place) as (λ (b : Bool). length (if b then bytes else []) ≡ (if b then 8 else 0)) [ true ↦ e | false ↦ refl ]
-
-pub length_one : (layout : LayoutWords) (place n : ℕ) → length (present layout place (le 8 n)) ≡ width layout place
-length_one layout place n = length_present layout place (le 8 n) (length_le 8 n)
-
-pub length_two : (layout : LayoutWords) (place m n : ℕ) → length (present layout place (le 4 m ++ le 4 n)) ≡ width layout place
-length_two layout place m n = length_present layout place (le 4 m ++ le 4 n) (omega (arith, length-append (le 4 m) (le 4 n), length_le 4 m, length_le 4 n))
-
-pub length_fields : (layout : LayoutWords) (s : Sample) → length (fields layout s) ≡ fields_len layout
-unfolding fields fields_len
-length_fields layout s =
-    let a = present layout 16 (le 8 s.identifier) in
-    let b = present layout 0 (le 8 s.ip) in
-    let c = present layout 1 (le 4 s.pid ++ le 4 s.tid) in
-    let d = present layout 2 (le 8 s.time) in
-    let e = present layout 3 (le 8 s.addr) in
-    let f = present layout 6 (le 8 s.id) in
-    let g = present layout 9 (le 8 s.stream_id) in
-    let h = present layout 7 (le 4 s.cpu ++ le 4 0) in
-    let i = present layout 8 (le 8 s.period) in
-    omega (
-      arith,
-      length-append (a ++ b ++ c ++ d ++ e ++ f ++ g ++ h) i,
-      length-append (a ++ b ++ c ++ d ++ e ++ f ++ g) h,
-      length-append (a ++ b ++ c ++ d ++ e ++ f) g,
-      length-append (a ++ b ++ c ++ d ++ e) f,
-      length-append (a ++ b ++ c ++ d) e,
-      length-append (a ++ b ++ c) d,
-      length-append (a ++ b) c,
-      length-append a b,
-      length_one layout 16 s.identifier,
-      length_one layout 0 s.ip,
-      length_two layout 1 s.pid s.tid,
-      length_one layout 2 s.time,
-      length_one layout 3 s.addr,
-      length_one layout 6 s.id,
-      length_one layout 9 s.stream_id,
-      length_two layout 7 s.cpu 0,
-      length_one layout 8 s.period,
-    )
+use Rattle.perf_sample.specs.Layout.{LayoutWords, all_fields, fields_in, fixed_len}
+use Rattle.perf_sample.specs.Spelling.{le, fields_bytes, branch_bytes, size_of, spelling, Spells}
+use Rattle.perf_sample.proofs.BreakLaws.{length_le}
+use Rattle.perf_sample.proofs.FieldLaws.{length_fields, in_most}
 
 pub length_branches : (bs : List Branch) → length (flat_map branch_bytes bs) ≡ 24 * length bs
 length_branches [] = refl
@@ -77,52 +31,41 @@ abbrev before : Sample → List ℕ
 before s = le 4 9 ++ le 2 s.misc
 
 abbrev behind : LayoutWords → Sample → List ℕ
-behind layout s = fields layout s ++ (le 8 (length s.branches) ++ flat_map branch_bytes s.branches)
-
-abbrev pub size_of : LayoutWords → Sample → ℕ
-size_of layout s = fixed_len layout + 24 * length s.branches
+behind layout s = fields_bytes s (fields_in layout all_fields) ++ flat_map branch_bytes s.branches
 
 parts : (layout : LayoutWords) (s : Sample) → spelling layout s ≡ before s ++ (le 2 (size_of layout s) ++ behind layout s)
 unfolding spelling
 parts layout s =
     let a = before s in
     let b = le 2 (size_of layout s) in
-    let c = fields layout s in
-    let d = le 8 (length s.branches) in
+    let c = fields_bytes s (fields_in layout all_fields) in
     let e = flat_map branch_bytes s.branches in
-    append_assoc (a ++ b ++ c) d e ∙ append_assoc (a ++ b) c (d ++ e) ∙ append_assoc a b (c ++ (d ++ e))
+    append_assoc (a ++ b) c e ∙ append_assoc a b (c ++ e)
 
 pub length_spelling : (layout : LayoutWords) (s : Sample) → length (spelling layout s) ≡ size_of layout s
 unfolding fixed_len
 length_spelling layout s =
     let a = before s in
     let b = le 2 (size_of layout s) in
-    let c = fields layout s in
-    let d = le 8 (length s.branches) in
+    let c = fields_bytes s (fields_in layout all_fields) in
     let e = flat_map branch_bytes s.branches in
     omega (
       arith,
       ap length (parts layout s),
-      length-append a (b ++ (c ++ (d ++ e))),
-      length-append b (c ++ (d ++ e)),
-      length-append c (d ++ e),
-      length-append d e,
+      length-append a (b ++ (c ++ e)),
+      length-append b (c ++ e),
+      length-append c e,
       length-append (le 4 9) (le 2 s.misc),
       length_le 4 9,
       length_le 2 s.misc,
       length_le 2 (size_of layout s),
-      length_fields layout s,
-      length_le 8 (length s.branches),
+      length_fields s (fields_in layout all_fields),
       length_branches s.branches,
     )
 
-width_most : (layout : LayoutWords) (place : ℕ) → width layout place ≤ 8
-width_most layout place = elim (has layout place) as (λ (b : Bool). (if b then 8 else 0) ≤ 8) [ true ↦ omega arith | false ↦ omega arith ]
-
-pub fixed_most : (layout : LayoutWords) → fixed_len layout ≤ 88
-unfolding fixed_len fields_len
-fixed_most layout =
-    omega (arith, width_most layout 16, width_most layout 0, width_most layout 1, width_most layout 2, width_most layout 3, width_most layout 6, width_most layout 9, width_most layout 7, width_most layout 8)
+pub fixed_most : (layout : LayoutWords) → fixed_len layout ≤ 96
+unfolding fixed_len
+fixed_most layout = omega (arith, in_most layout all_fields)
 
 -- the size field
 pub size_at : List ℕ → ℕ

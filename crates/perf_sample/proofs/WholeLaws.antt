@@ -1,9 +1,9 @@
 -- Bytes without a break begin with the spelling of a sample.
-use Rattle.std.proofs.Common.{◌≡◌, ℕ, zero, suc, ◌+◌, ◌*◌, ◌-◌, ◌^◌, ◌<◌, ◌≤◌, List, [], ◌∷◌, ◌++◌, length, take, drop, Bool, true, false, if◌then◌else◌, nat_eq, nat_lt, nat_le, Option, Some, None, refl, sym, ap, ◌∙◌, subst, arith, append_assoc, length-append}
+use Rattle.std.proofs.Common.{◌≡◌, ℕ, zero, suc, ◌+◌, ◌*◌, ◌-◌, ◌^◌, ◌<◌, ◌≤◌, List, [], ◌∷◌, ◌++◌, map, length, take, drop, Bool, true, false, if◌then◌else◌, nat_eq, nat_lt, nat_le, Option, Some, None, refl, sym, ap, ◌∙◌, subst, arith, append_assoc, append-nil, add-one, length-append}
 use Rattle.std.proofs.lemmas.Bool.{ltb-false, ltb-true, leb-true, eqb-true}
 use Rattle.std.proofs.lemmas.List.{length-take-le, take-append-drop}
 use Rattle.std.proofs.lemmas.List.Elements.{All-cons, All-nil}
-use Rattle.std.specs.List.{All, flat_map}
+use Rattle.std.specs.List.{All, AllByRecursion, flat_map}
 use Rattle.byteorder.specs.Endian.{little_number}
 use Rattle.byteorder.specs.Numbers.{little_from-lt}
 use Rattle.perf_sample.specs.declared.sample.Branch.{Branch}
@@ -12,18 +12,21 @@ use Rattle.perf_sample.specs.declared.faults.Place.{Place}
 use Rattle.perf_sample.specs.declared.faults.Place.TheVariants as place
 use Rattle.perf_sample.specs.declared.faults.SampleFault.{SampleFault}
 use Rattle.perf_sample.specs.declared.faults.SampleFault.TheVariants as fault
-use Rattle.perf_sample.specs.Layout.{LayoutWords, has, fixed_len, FlagsFit, Fits}
-use Rattle.perf_sample.specs.Spelling.{le, present, fields, branch_bytes, Spells}
-use Rattle.perf_sample.specs.Breaks.{number_at, is_size, Field, Header, At, rows, row_fields, branch_fields, fields_of, cut_in, wrong_in, or_on, unless, first_of, first_break}
+use Rattle.perf_sample.specs.Layout.{LayoutWords, has, before_nr, all_fields, fields_in, fixed_len, nr_at, LeftOut, FlagsFit, Fits}
+use Rattle.perf_sample.specs.Words.{word_of, InWidth}
+use Rattle.perf_sample.specs.Blank.{blank}
+use Rattle.perf_sample.specs.Rows.{SetsOnly, SameWord}
+use Rattle.perf_sample.specs.Spelling.{le, place_bytes, fields_bytes, header_bytes, branch_bytes, Spells}
+use Rattle.perf_sample.specs.Breaks.{number_at, is_size, Field, Header, At, branch_fields, fields_of, cut_in, wrong_in, or_on, unless, first_of, first_break}
 use Rattle.perf_sample.specs.BranchRange.{IsBranch}
 use Rattle.perf_sample.specs.Range.{IsSample}
-use Rattle.perf_sample.specs.Reading.{header_bytes}
 use Rattle.perf_sample.proofs.NumberLaws.{AreBytes, number_back, halves_back, header_back, are_behind, are_before}
 use Rattle.perf_sample.proofs.BreakLaws.{length_le, number_read, number_behind}
 use Rattle.perf_sample.proofs.HeaderLaws.{any_header, length_header, kind_read, size_read}
-use Rattle.perf_sample.proofs.SampleLaws.{whole_spells}
-use Rattle.perf_sample.proofs.SpellingLaws.{length_fields}
-use Rattle.perf_sample.proofs.OneSpelling.{the_branch, the_sample}
+use Rattle.perf_sample.proofs.SampleLaws.{nr_fields, index_fields, index_bytes, with_nr, fields_split, whole_spells, range_with}
+use Rattle.perf_sample.proofs.RowLaws.{field_at, row_kept, index_kept}
+use Rattle.perf_sample.proofs.FieldLaws.{length_fields, in_there, in_left_out, in_drop_there, in_drop_out, bytes_there, bytes_out}
+use Rattle.perf_sample.proofs.OneSpelling.{the_branch}
 
 abbrev Found : Type 0
 Found = Option (SampleFault × List ℕ)
@@ -108,87 +111,6 @@ header_of bytes long are =
           ∙ take-append-drop 8 bytes);
     }
 
--- a row without a break holds a number, or is left out
-record OneRow (b : Bool) (layout : LayoutWords) (size : ℕ) (fs : List Field) (bytes : List ℕ) : Type 0 where
-  n : ℕ
-  small : n < 2 ^ 64
-  off : b ≡ false → n ≡ 0
-  rest : List ℕ
-  are : AreBytes rest
-  is : bytes ≡ (if b then le 8 n else []) ++ rest
-  none : first_of layout size fs rest ≡ None
-
-one_row_by : (b : Bool) (layout : LayoutWords) (size : ℕ) (p : Place) (fs : List Field) (bytes : List ℕ) → AreBytes bytes → first_of layout size ((if b then At p ∷ [] else []) ++ fs) bytes ≡ None
-    → OneRow b layout size fs bytes
-one_row_by true layout size p fs bytes are e =
-    let seen = passed layout size (At p) fs bytes e in
-    let one = one_read bytes seen.long are in
-    record { n = one.n; small = one.small; off = λ off. absurd cc; rest = drop 8 bytes; are = are_behind 8 bytes are; is = one.is; none = seen.none }
-one_row_by false layout size p fs bytes are e = record { n = 0; small = omega arith; off = λ off. refl; rest = bytes; are = are; is = refl; none = e }
-
-one_row : (layout : LayoutWords) (size k : ℕ) (p : Place) (fs qs : List Field) (bytes : List ℕ) → AreBytes bytes → first_of layout size ((row_fields layout (k, p) ++ fs) ++ qs) bytes ≡ None
-    → OneRow (has layout k) layout size (fs ++ qs) bytes
-one_row layout size k p fs qs bytes are e =
-    one_row_by (has layout k) layout size p (fs ++ qs) bytes are (ap (λ (l : List Field). first_of layout size l bytes) (sym (append_assoc (row_fields layout (k, p)) fs qs)) ∙ e)
-
--- the same of a row of two numbers
-record TwoRow (b : Bool) (layout : LayoutWords) (size : ℕ) (fs : List Field) (bytes : List ℕ) : Type 0 where
-  m : ℕ
-  n : ℕ
-  first : m < 2 ^ 32
-  second : n < 2 ^ 32
-  off : b ≡ false → m ≡ 0
-  off_too : b ≡ false → n ≡ 0
-  rest : List ℕ
-  are : AreBytes rest
-  is : bytes ≡ (if b then le 4 m ++ le 4 n else []) ++ rest
-  none : first_of layout size fs rest ≡ None
-
-two_row_by : (b : Bool) (layout : LayoutWords) (size : ℕ) (p : Place) (fs : List Field) (bytes : List ℕ) → AreBytes bytes → first_of layout size ((if b then At p ∷ [] else []) ++ fs) bytes ≡ None
-    → TwoRow b layout size fs bytes
-two_row_by true layout size p fs bytes are e =
-    let seen = passed layout size (At p) fs bytes e in
-    let two = two_read bytes seen.long are in
-    record {
-      m = two.m;
-      n = two.n;
-      first = two.first;
-      second = two.second;
-      off = λ off. absurd cc;
-      off_too = λ off. absurd cc;
-      rest = drop 8 bytes;
-      are = are_behind 8 bytes are;
-      is = two.is;
-      none = seen.none;
-    }
-two_row_by false layout size p fs bytes are e = record {
-  m = 0;
-  n = 0;
-  first = omega arith;
-  second = omega arith;
-  off = λ off. refl;
-  off_too = λ off. refl;
-  rest = bytes;
-  are = are;
-  is = refl;
-  none = e;
-}
-
-two_row : (layout : LayoutWords) (size k : ℕ) (p : Place) (fs qs : List Field) (bytes : List ℕ) → AreBytes bytes → first_of layout size ((row_fields layout (k, p) ++ fs) ++ qs) bytes ≡ None
-    → TwoRow (has layout k) layout size (fs ++ qs) bytes
-two_row layout size k p fs qs bytes are e =
-    two_row_by (has layout k) layout size p (fs ++ qs) bytes are (ap (λ (l : List Field). first_of layout size l bytes) (sym (append_assoc (row_fields layout (k, p)) fs qs)) ∙ e)
-
--- the row of cpu, whose second half is 0
-record CpuRow (b : Bool) (layout : LayoutWords) (size : ℕ) (fs : List Field) (bytes : List ℕ) : Type 0 where
-  n : ℕ
-  small : n < 2 ^ 32
-  off : b ≡ false → n ≡ 0
-  rest : List ℕ
-  are : AreBytes rest
-  is : bytes ≡ (if b then le 4 n ++ le 4 0 else []) ++ rest
-  none : first_of layout size fs rest ≡ None
-
 right_alone : (b : Bool) (f : SampleFault) → unless b f None ≡ None → b ≡ true
 right_alone true f e = refl
 right_alone false f e = absurd cc
@@ -198,47 +120,8 @@ right_both true true f g e = (refl, refl)
 right_both true false f g e = absurd cc
 right_both false c f g e = absurd cc
 
-cpu_row_by : (b : Bool) (layout : LayoutWords) (size : ℕ) (fs : List Field) (bytes : List ℕ) → AreBytes bytes → first_of layout size ((if b then At place.Cpu ∷ [] else []) ++ fs) bytes ≡ None
-    → CpuRow b layout size fs bytes
-cpu_row_by true layout size fs bytes are e =
-    let seen = passed layout size (At place.Cpu) fs bytes e in
-    let two = two_read bytes seen.long are in
-    let told : number_at 4 4 bytes ≡ two.n =
-    ap (number_at 4 4) (two.is ∙ append_assoc (le 4 two.m) (le 4 two.n) (drop 8 bytes)) ∙ number_behind 4 4 two.n (le 4 two.m) (drop 8 bytes) (length_le 4 two.m) two.second in
-    let nothing : two.n ≡ 0 = sym told ∙ eqb-true (number_at 4 4 bytes) 0 (right_alone (nat_eq (number_at 4 4 bytes) 0) fault.CpuReserved seen.right) in
-    record {
-      n = two.m;
-      small = two.first;
-      off = λ off. absurd cc;
-      rest = drop 8 bytes;
-      are = are_behind 8 bytes are;
-      is = two.is ∙ ap (λ (n : ℕ). (le 4 two.m ++ le 4 n) ++ drop 8 bytes) nothing;
-      none = seen.none;
-    }
-cpu_row_by false layout size fs bytes are e = record { n = 0; small = omega arith; off = λ off. refl; rest = bytes; are = are; is = refl; none = e }
-
-cpu_row : (layout : LayoutWords) (size : ℕ) (fs qs : List Field) (bytes : List ℕ) → AreBytes bytes → first_of layout size ((row_fields layout (7, place.Cpu) ++ fs) ++ qs) bytes ≡ None
-    → CpuRow (has layout 7) layout size (fs ++ qs) bytes
-cpu_row layout size fs qs bytes are e =
-    cpu_row_by (has layout 7) layout size (fs ++ qs) bytes are (ap (λ (l : List Field). first_of layout size l bytes) (sym (append_assoc (row_fields layout (7, place.Cpu)) fs qs)) ∙ e)
-
 next : (a b r t : List ℕ) → r ≡ t → a ++ (b ++ r) ≡ (a ++ b) ++ t
 next a b r t e = sym (append_assoc a b r) ∙ ap (λ (x : List ℕ). (a ++ b) ++ x) e
-
--- nine parts, one after another
-nine : (s t u v w x y z p q a b c d e f g h i : List ℕ) → s ≡ a ++ t → t ≡ b ++ u → u ≡ c ++ v → v ≡ d ++ w → w ≡ e ++ x → x ≡ f ++ y → y ≡ g ++ z → z ≡ h ++ p → p ≡ i ++ q
-    → s ≡ (a ++ b ++ c ++ d ++ e ++ f ++ g ++ h ++ i) ++ q
-nine s t u v w x y z p q a b c d e f g h i is_s is_t is_u is_v is_w is_x is_y is_z is_p =
-    is_s
-    ∙ ap (λ (r : List ℕ). a ++ r) is_t
-    ∙ next a b u (c ++ v) is_u
-    ∙ next (a ++ b) c v (d ++ w) is_v
-    ∙ next (a ++ b ++ c) d w (e ++ x) is_w
-    ∙ next (a ++ b ++ c ++ d) e x (f ++ y) is_x
-    ∙ next (a ++ b ++ c ++ d ++ e) f y (g ++ z) is_y
-    ∙ next (a ++ b ++ c ++ d ++ e ++ f) g z (h ++ p) is_z
-    ∙ next (a ++ b ++ c ++ d ++ e ++ f ++ g) h p (i ++ q) is_p
-    ∙ sym (append_assoc (a ++ b ++ c ++ d ++ e ++ f ++ g ++ h) i q)
 
 three : (s t u v a b c : List ℕ) → s ≡ a ++ t → t ≡ b ++ u → u ≡ c ++ v → s ≡ (a ++ b) ++ (c ++ v)
 three s t u v a b c is_s is_t is_u = is_s ∙ ap (λ (r : List ℕ). a ++ r) is_t ∙ next a b u (c ++ v) is_u
@@ -247,84 +130,181 @@ four : (s t u v w a b c d : List ℕ) → s ≡ a ++ t → t ≡ b ++ u → u �
 four s t u v w a b c d is_s is_t is_u is_v =
     three s t u v a b c is_s is_t is_u ∙ next (a ++ b) c v (d ++ w) is_v ∙ sym (append_assoc (a ++ b ++ c) d w)
 
--- what stands before the branches, in a sample that has none yet
-record RowsRead (layout : LayoutWords) (size misc : ℕ) (qs : List Field) (bytes : List ℕ) : Type 0 where
+-- a word at the front of bytes, put into the field of this number
+record WordRead (n : ℕ) (bytes : List ℕ) (s : Sample) : Type 0 where
+  new : Sample
+  sets : SetsOnly (field_at n) s new
+  small : InWidth (word_of (field_at n) new)
+  is : bytes ≡ place_bytes (field_at n) new ++ drop 8 bytes
+
+word_read : (layout : LayoutWords) (size n : ℕ) (bytes : List ℕ) (s : Sample) → n < 9 → AreBytes bytes → 8 ≤ length bytes
+    → wrong_in layout size (At (field_at n)) bytes ≡ None → WordRead n bytes s
+word_read layout size zero bytes s within are long right =
+    let one = one_read bytes long are in record { new = record s { identifier = one.n }; sets = refl; small = one.small; is = one.is }
+word_read layout size (suc zero) bytes s within are long right =
+    let one = one_read bytes long are in record { new = record s { ip = one.n }; sets = refl; small = one.small; is = one.is }
+word_read layout size (suc (suc zero)) bytes s within are long right =
+    let two = two_read bytes long are in
+    record { new = record s { pid = two.m; tid = two.n }; sets = refl; small = (two.first, two.second); is = two.is }
+word_read layout size (suc (suc (suc zero))) bytes s within are long right =
+    let one = one_read bytes long are in record { new = record s { time = one.n }; sets = refl; small = one.small; is = one.is }
+word_read layout size (suc (suc (suc (suc zero)))) bytes s within are long right =
+    let one = one_read bytes long are in record { new = record s { addr = one.n }; sets = refl; small = one.small; is = one.is }
+word_read layout size (suc (suc (suc (suc (suc zero))))) bytes s within are long right =
+    let one = one_read bytes long are in record { new = record s { id = one.n }; sets = refl; small = one.small; is = one.is }
+word_read layout size (suc (suc (suc (suc (suc (suc zero)))))) bytes s within are long right =
+    let one = one_read bytes long are in record { new = record s { stream_id = one.n }; sets = refl; small = one.small; is = one.is }
+word_read layout size (suc (suc (suc (suc (suc (suc (suc zero))))))) bytes s within are long right =
+    let two = two_read bytes long are in
+    let told : number_at 4 4 bytes ≡ two.n =
+    ap (number_at 4 4) (two.is ∙ append_assoc (le 4 two.m) (le 4 two.n) (drop 8 bytes))
+    ∙ number_behind 4 4 two.n (le 4 two.m) (drop 8 bytes) (length_le 4 two.m) two.second in
+    let nothing : two.n ≡ 0 = sym told ∙ eqb-true (number_at 4 4 bytes) 0 (right_alone (nat_eq (number_at 4 4 bytes) 0) fault.CpuReserved right) in
+    record {
+      new = record s { cpu = two.m };
+      sets = refl;
+      small = (two.first, omega arith);
+      is = two.is ∙ ap (λ (n : ℕ). (le 4 two.m ++ le 4 n) ++ drop 8 bytes) nothing;
+    }
+word_read layout size (suc (suc (suc (suc (suc (suc (suc (suc zero)))))))) bytes s within are long right =
+    let one = one_read bytes long are in record { new = record s { period = one.n }; sets = refl; small = one.small; is = one.is }
+word_read layout size (suc (suc (suc (suc (suc (suc (suc (suc (suc n))))))))) bytes s within are long right = absurd (omega (arith, within))
+
+-- what the first n fields hold, in a sample that has no branches yet
+record RowsRead (layout : LayoutWords) (size misc n : ℕ) (qs : List Field) (bytes : List ℕ) : Type 0 where
   sample : Sample
   fits : Fits layout sample
   range : IsSample sample
   same : sample.misc ≡ misc
   rest : List ℕ
   are : AreBytes rest
-  is : bytes ≡ fields layout sample ++ rest
-  none : first_of layout size qs rest ≡ None
+  is : bytes ≡ fields_bytes sample (fields_in layout (take n before_nr)) ++ rest
+  none : first_of layout size (map At (fields_in layout (drop n before_nr)) ++ qs) rest ≡ None
 
--- the fields of the rows from this one on
-abbrev behind : LayoutWords → ℕ → List Field
-behind layout n = flat_map (row_fields layout) (drop n rows)
-
-rows_joined : (layout : LayoutWords) (size misc : ℕ) (qs : List Field) (bytes : List ℕ) → misc < 2 ^ 16
-    → (a : OneRow (has layout 16) layout size (behind layout 1 ++ qs) bytes)
-    → (b : OneRow (has layout 0) layout size (behind layout 2 ++ qs) a.rest)
-    → (c : TwoRow (has layout 1) layout size (behind layout 3 ++ qs) b.rest)
-    → (d : OneRow (has layout 2) layout size (behind layout 4 ++ qs) c.rest)
-    → (e : OneRow (has layout 3) layout size (behind layout 5 ++ qs) d.rest)
-    → (f : OneRow (has layout 6) layout size (behind layout 6 ++ qs) e.rest)
-    → (g : OneRow (has layout 9) layout size (behind layout 7 ++ qs) f.rest)
-    → (h : CpuRow (has layout 7) layout size (behind layout 8 ++ qs) g.rest)
-    → (i : OneRow (has layout 8) layout size (behind layout 9 ++ qs) h.rest)
-    → RowsRead layout size misc qs bytes
-unfolding fields
-rows_joined layout size misc qs bytes small a b c d e f g h i = record {
-  sample = the_sample misc a.n b.n c.m c.n d.n e.n f.n g.n h.n i.n [];
+rows_start : (layout : LayoutWords) (size misc : ℕ) (qs : List Field) (bytes : List ℕ) → misc < 2 ^ 16 → AreBytes bytes
+    → first_of layout size (map At (fields_in layout before_nr) ++ qs) bytes ≡ None → RowsRead layout size misc 0 qs bytes
+unfolding fields_in
+rows_start layout size misc qs bytes small are free = record {
+  sample = record blank { misc = misc };
   fits = record {
-    identifier = a.off;
-    ip = b.off;
-    pid = c.off;
-    tid = c.off_too;
-    time = d.off;
-    addr = e.off;
-    id = f.off;
-    stream_id = g.off;
-    cpu = h.off;
-    period = i.off;
+    left_out = (λ off. refl, (λ off. refl, (λ off. (refl, refl), (λ off. refl, (λ off. refl, (λ off. refl, (λ off. refl, (λ off. (refl, refl), (λ off. refl, (λ off. refl, (λ off. refl, tt)))))))))));
     flags = All-nil (λ b. b.flags < 2 ^ 33);
   };
   range = record {
     misc = small;
-    identifier = a.small;
-    ip = b.small;
-    pid = c.first;
-    tid = c.second;
-    time = d.small;
-    addr = e.small;
-    id = f.small;
-    stream_id = g.small;
-    cpu = h.small;
-    period = i.small;
+    fields = (omega arith, (omega arith, ((omega arith, omega arith), (omega arith, (omega arith, (omega arith, (omega arith, ((omega arith, omega arith), (omega arith, (omega arith, (omega arith, tt)))))))))));
     branches = All-nil IsBranch;
   };
   same = refl;
-  rest = i.rest;
-  are = i.are;
-  is =
-      nine bytes a.rest b.rest c.rest d.rest e.rest f.rest g.rest h.rest i.rest (present layout 16 (le 8 a.n)) (present layout 0 (le 8 b.n)) (present layout 1 (le 4 c.m ++ le 4 c.n))
-      (present layout 2 (le 8 d.n)) (present layout 3 (le 8 e.n)) (present layout 6 (le 8 f.n)) (present layout 9 (le 8 g.n)) (present layout 7 (le 4 h.n ++ le 4 0))
-      (present layout 8 (le 8 i.n)) a.is b.is c.is d.is e.is f.is g.is h.is i.is;
-  none = i.none;
+  rest = bytes;
+  are = are;
+  is = refl;
+  none = free;
 }
 
-rows_read : (layout : LayoutWords) (size misc : ℕ) (qs : List Field) (bytes : List ℕ) → misc < 2 ^ 16 → AreBytes bytes → first_of layout size (behind layout 0 ++ qs) bytes ≡ None → RowsRead layout size misc qs bytes
+rows_step_by : (b : Bool) (layout : LayoutWords) (size misc n : ℕ) (qs : List Field) (bytes : List ℕ) → has layout (field_at n) ≡ b → n < 9
+    → RowsRead layout size misc n qs bytes → RowsRead layout size misc (n + 1) qs bytes
+rows_step_by true layout size misc n qs bytes on within r =
+    let p = field_at n in
+    let front = fields_in layout (take n before_nr) in
+    let more = fields_in layout (drop (n + 1) before_nr) in
+    let seen = passed layout size (At p) (map At more ++ qs) r.rest
+    (ap (λ (l : List Place). first_of layout size (map At l ++ qs) r.rest) (sym (in_drop_there layout before_nr n place.Identifier within on)) ∙ r.none) in
+    let read = word_read layout size n r.rest r.sample within r.are seen.long seen.right in
+    let kept = row_kept layout n r.sample read.new within read.sets on r.fits in
+    let rest = drop 8 r.rest in
+    record {
+      sample = read.new;
+      fits = kept.fits;
+      range = kept.range r.range read.small;
+      same = kept.misc ∙ r.same;
+      rest = rest;
+      are = are_behind 8 r.rest r.are;
+      is =
+          r.is
+          ∙ ap (λ (l : List ℕ). fields_bytes r.sample front ++ l) read.is
+          ∙ sym (append_assoc (fields_bytes r.sample front) (place_bytes p read.new) rest)
+          ∙ ap (λ (l : List ℕ). (l ++ place_bytes p read.new) ++ rest) (sym kept.front)
+          ∙ ap (λ (l : List ℕ). l ++ rest) (sym (bytes_there layout read.new before_nr n place.Identifier within on));
+      none = seen.none;
+    }
+rows_step_by false layout size misc n qs bytes off within r = record {
+  sample = r.sample;
+  fits = r.fits;
+  range = r.range;
+  same = r.same;
+  rest = r.rest;
+  are = r.are;
+  is = r.is ∙ ap (λ (l : List ℕ). l ++ r.rest) (sym (bytes_out layout r.sample before_nr n place.Identifier within off));
+  none = ap (λ (l : List Place). first_of layout size (map At l ++ qs) r.rest) (sym (in_drop_out layout before_nr n place.Identifier within off)) ∙ r.none;
+}
+
+rows_step : (layout : LayoutWords) (size misc n : ℕ) (qs : List Field) (bytes : List ℕ) → n < 9 → RowsRead layout size misc n qs bytes → RowsRead layout size misc (n + 1) qs bytes
+rows_step layout size misc n qs bytes within r = rows_step_by (has layout (field_at n)) layout size misc n qs bytes refl within r
+
+rows_up_to : (n : ℕ) (layout : LayoutWords) (size misc : ℕ) (qs : List Field) (bytes : List ℕ) → n ≤ 9 → RowsRead layout size misc 0 qs bytes → RowsRead layout size misc n qs bytes
+rows_up_to zero layout size misc qs bytes within r = r
+rows_up_to (suc n) layout size misc qs bytes within r =
+    subst (λ (k : ℕ). RowsRead layout size misc k qs bytes) (add-one n)
+    (rows_step layout size misc n qs bytes (omega (arith, within)) (rows_up_to n layout size misc qs bytes (omega (arith, within)) r))
+
+-- all fields before the number of branches
+rows_read : (layout : LayoutWords) (size misc : ℕ) (qs : List Field) (bytes : List ℕ) → misc < 2 ^ 16 → AreBytes bytes
+    → first_of layout size (map At (fields_in layout before_nr) ++ qs) bytes ≡ None → RowsRead layout size misc 9 qs bytes
 rows_read layout size misc qs bytes small are free =
-    let a = one_row layout size 16 place.Identifier (behind layout 1) qs bytes are free in
-    let b = one_row layout size 0 place.Ip (behind layout 2) qs a.rest a.are a.none in
-    let c = two_row layout size 1 place.Tid (behind layout 3) qs b.rest b.are b.none in
-    let d = one_row layout size 2 place.Time (behind layout 4) qs c.rest c.are c.none in
-    let e = one_row layout size 3 place.Addr (behind layout 5) qs d.rest d.are d.none in
-    let f = one_row layout size 6 place.Id (behind layout 6) qs e.rest e.are e.none in
-    let g = one_row layout size 9 place.StreamId (behind layout 7) qs f.rest f.are f.none in
-    let h = cpu_row layout size (behind layout 8) qs g.rest g.are g.none in
-    let i = one_row layout size 8 place.Period (behind layout 9) qs h.rest h.are h.none in
-    rows_joined layout size misc qs bytes small a b c d e f g h i
+    rows_up_to 9 layout size misc qs bytes (omega arith) (rows_start layout size misc qs bytes small are free)
+
+-- the hardware index, where the layout has it
+record IndexRead (layout : LayoutWords) (size : ℕ) (qs : List Field) (s : Sample) (bytes : List ℕ) : Type 0 where
+  new : Sample
+  fits : Fits layout new
+  range : IsSample new
+  before : AllByRecursion (SameWord s new) before_nr
+  misc : new.misc ≡ s.misc
+  rest : List ℕ
+  are : AreBytes rest
+  is : bytes ≡ index_bytes layout new ++ rest
+  none : first_of layout size qs rest ≡ None
+
+index_by : (b : Bool) (layout : LayoutWords) (size : ℕ) (qs : List Field) (s : Sample) (bytes : List ℕ) → has layout place.HwIndex ≡ b → Fits layout s → IsSample s → AreBytes bytes
+    → first_of layout size (index_fields layout ++ qs) bytes ≡ None → IndexRead layout size qs s bytes
+index_by true layout size qs s bytes on f is are free =
+    let there = in_there layout place.HwIndex on in
+    let seen = passed layout size (At place.HwIndex) qs bytes (ap (λ (l : List Place). first_of layout size (map At l ++ qs) bytes) (sym there) ∙ free) in
+    let one = one_read bytes seen.long are in
+    let new : Sample = record s { hw_index = one.n } in
+    let kept = index_kept layout s new refl on f in
+    record {
+      new = new;
+      fits = kept.fits;
+      range = kept.range is one.small;
+      before = kept.before;
+      misc = kept.misc;
+      rest = drop 8 bytes;
+      are = are_behind 8 bytes are;
+      is =
+          one.is
+          ∙ ap (λ (l : List ℕ). l ++ drop 8 bytes) (sym (append-nil (le 8 one.n)))
+          ∙ ap (λ (l : List Place). fields_bytes new l ++ drop 8 bytes) (sym there);
+      none = seen.none;
+    }
+index_by false layout size qs s bytes off f is are free =
+    let out = in_left_out layout place.HwIndex off in
+    record {
+      new = s;
+      fits = f;
+      range = is;
+      before = (refl, (refl, (refl, (refl, (refl, (refl, (refl, (refl, (refl, tt)))))))));
+      misc = refl;
+      rest = bytes;
+      are = are;
+      is = ap (λ (l : List Place). fields_bytes s l ++ bytes) (sym out);
+      none = ap (λ (l : List Place). first_of layout size (map At l ++ qs) bytes) (sym out) ∙ free;
+    }
+
+index_read : (layout : LayoutWords) (size : ℕ) (qs : List Field) (s : Sample) (bytes : List ℕ) → Fits layout s → IsSample s → AreBytes bytes
+    → first_of layout size (index_fields layout ++ qs) bytes ≡ None → IndexRead layout size qs s bytes
+index_read layout size qs s bytes f is are free = index_by (has layout place.HwIndex) layout size qs s bytes refl f is are free
 
 -- so many branches
 record StackRead (n : ℕ) (bytes : List ℕ) : Type 0 where
@@ -379,74 +359,72 @@ pub record FrontRead (layout : LayoutWords) (bytes : List ℕ) : Type 0 where
   pub spells : Spells layout sample spelled
   pub is : bytes ≡ spelled ++ rest
 
--- header, fields, number of branches and branches are a sample
-front_spelled : (layout : LayoutWords) (bytes : List ℕ) (h : HeaderRead bytes) (size : ℕ) (qs : List Field) (r : RowsRead layout size h.misc qs (drop 8 bytes)) (one : OneNumber r.rest)
-    (stack : StackRead one.n (drop 8 r.rest)) → h.kind ≡ 9 → one.n ≤ 256 → h.size ≡ fixed_len layout + 24 * one.n → FrontRead layout bytes
-front_spelled layout bytes h size qs r one stack kind few sized =
+five : (s t u v w x a b c d e : List ℕ) → s ≡ a ++ t → t ≡ b ++ u → u ≡ c ++ v → v ≡ d ++ w → w ≡ e ++ x → s ≡ (a ++ b ++ c ++ d ++ e) ++ x
+five s t u v w x a b c d e is_s is_t is_u is_v is_w =
+    four s t u v w a b c d is_s is_t is_u is_v ∙ ap (λ (r : List ℕ). (a ++ b ++ c ++ d) ++ r) is_w ∙ sym (append_assoc (a ++ b ++ c ++ d) e x)
+
+-- header, fields, number of branches, hardware index and branches are a sample
+front_spelled : (layout : LayoutWords) (bytes : List ℕ) (h : HeaderRead bytes) (size : ℕ) (qs rs : List Field) (r : RowsRead layout size h.misc 9 qs (drop 8 bytes)) (one : OneNumber r.rest)
+    (x : IndexRead layout size rs r.sample (drop 8 r.rest)) (stack : StackRead one.n x.rest) → h.kind ≡ 9 → one.n ≤ 256 → h.size ≡ fixed_len layout + 24 * one.n
+    → FrontRead layout bytes
+front_spelled layout bytes h size qs rs r one x stack kind few sized =
     let H = header_bytes h.misc h.size in
-    let R = fields layout r.sample in
+    let R = fields_bytes r.sample (fields_in layout before_nr) in
     let N = le 8 one.n in
+    let X = index_bytes layout x.new in
     let T = flat_map branch_bytes stack.branches in
     record {
-      sample = record r.sample { branches = stack.branches };
-      spelled = ((H ++ R) ++ N) ++ T;
+      sample = record x.new { branches = stack.branches };
+      spelled = (with_nr layout h.misc h.size one.n r.sample ++ X) ++ T;
       rest = stack.rest;
-      range = record {
-        misc = r.range.misc;
-        identifier = r.range.identifier;
-        ip = r.range.ip;
-        pid = r.range.pid;
-        tid = r.range.tid;
-        time = r.range.time;
-        addr = r.range.addr;
-        id = r.range.id;
-        stream_id = r.range.stream_id;
-        cpu = r.range.cpu;
-        period = r.range.period;
-        branches = stack.range;
-      };
+      range = range_with x.new stack.branches x.range stack.range (omega (arith, stack.count, few));
       spells =
-          subst (λ (m : ℕ). Spells layout (record r.sample { branches = stack.branches }) (((header_bytes m h.size ++ R) ++ N) ++ T)) r.same
-          (whole_spells layout h.size one.n r.sample _ stack.branches r.fits refl stack.fit stack.count few sized);
+          subst (λ (m : ℕ). Spells layout (record x.new { branches = stack.branches }) ((with_nr layout m h.size one.n r.sample ++ X) ++ T)) r.same
+          (whole_spells layout h.size one.n r.sample x.new stack.branches x.fits x.before x.misc stack.fit stack.count few sized);
       is =
-          four bytes (drop 8 bytes) r.rest (drop 8 r.rest) stack.rest H R N T (h.is ∙ ap (λ (k : ℕ). any_header k h.misc h.size ++ drop 8 bytes) kind) r.is one.is stack.is;
+          five bytes (drop 8 bytes) r.rest (drop 8 r.rest) x.rest stack.rest H R N X T (h.is ∙ ap (λ (k : ℕ). any_header k h.misc h.size ++ drop 8 bytes) kind) r.is one.is x.is stack.is;
     }
 
 -- the number of branches stands behind the header and the fields
-nr_told : (layout : LayoutWords) (bytes : List ℕ) (h : HeaderRead bytes) (size : ℕ) (qs : List Field) (r : RowsRead layout size h.misc qs (drop 8 bytes)) (one : OneNumber r.rest)
-    → number_at (fixed_len layout - 8) 8 bytes ≡ one.n
-unfolding fixed_len
+nr_told : (layout : LayoutWords) (bytes : List ℕ) (h : HeaderRead bytes) (size : ℕ) (qs : List Field) (r : RowsRead layout size h.misc 9 qs (drop 8 bytes)) (one : OneNumber r.rest)
+    → number_at (nr_at layout) 8 bytes ≡ one.n
+unfolding nr_at
 nr_told layout bytes h size qs r one =
     let H = any_header h.kind h.misc h.size in
-    let R = fields layout r.sample in
-    let at : length (H ++ R) ≡ fixed_len layout - 8 = omega (arith, length-append H R, length_header h.kind h.misc h.size, length_fields layout r.sample) in
-    ap (number_at (fixed_len layout - 8) 8) (three bytes (drop 8 bytes) r.rest (drop 8 r.rest) H R (le 8 one.n) h.is r.is one.is)
-    ∙ number_behind (fixed_len layout - 8) 8 one.n (H ++ R) (drop 8 r.rest) at one.small
+    let R = fields_bytes r.sample (fields_in layout before_nr) in
+    let at : length (H ++ R) ≡ nr_at layout = omega (arith, length-append H R, length_header h.kind h.misc h.size, length_fields r.sample (fields_in layout before_nr)) in
+    ap (number_at (nr_at layout) 8) (three bytes (drop 8 bytes) r.rest (drop 8 r.rest) H R (le 8 one.n) h.is r.is one.is)
+    ∙ number_behind (nr_at layout) 8 one.n (H ++ R) (drop 8 r.rest) at one.small
 
-front_joined : (layout : LayoutWords) (told : ℕ) (bytes : List ℕ) (h : HeaderRead bytes) (r : RowsRead layout (number_at 6 2 bytes) h.misc (At place.Nr ∷ branch_fields 0 told) (drop 8 bytes)) → h.kind ≡ 9
-    → told ≡ number_at (fixed_len layout - 8) 8 bytes → FrontRead layout bytes
+front_joined : (layout : LayoutWords) (told : ℕ) (bytes : List ℕ) (h : HeaderRead bytes) (r : RowsRead layout (number_at 6 2 bytes) h.misc 9 (nr_fields layout told) (drop 8 bytes)) → h.kind ≡ 9
+    → told ≡ number_at (nr_at layout) 8 bytes → FrontRead layout bytes
+unfolding fields_in
 front_joined layout told bytes h r kind tells =
     let size = number_at 6 2 bytes in
     let found = number_at 0 8 r.rest in
-    let at = passed layout size (At place.Nr) (branch_fields 0 told) r.rest r.none in
+    let behind = drop 8 r.rest in
+    let at = passed layout size (At place.Nr) (index_fields layout ++ branch_fields 0 told) r.rest r.none in
     let one = one_read r.rest at.long r.are in
-    let counted : found ≡ one.n = ap (number_at 0 8) one.is ∙ number_read 8 one.n (drop 8 r.rest) one.small in
+    let counted : found ≡ one.n = ap (number_at 0 8) one.is ∙ number_read 8 one.n behind one.small in
     let agrees = right_both (nat_le found 256) (nat_eq size (fixed_len layout + 24 * found)) fault.Count fault.Size at.right in
     let few : one.n ≤ 256 = subst (λ (k : ℕ). k ≤ 256) counted (leb-true found 256 agrees.0) in
     let own : size ≡ h.size = ap (number_at 6 2) h.is ∙ size_read h.kind h.misc h.size (drop 8 bytes) h.small_size in
     let sized : h.size ≡ fixed_len layout + 24 * one.n = sym own ∙ eqb-true size (fixed_len layout + 24 * found) agrees.1 ∙ ap (λ (k : ℕ). fixed_len layout + 24 * k) counted in
-    let same : told ≡ one.n = tells ∙ nr_told layout bytes h size (At place.Nr ∷ branch_fields 0 told) r one in
-    let stack = stack_read one.n layout size 0 (drop 8 r.rest) (are_behind 8 r.rest r.are) (ap (λ (k : ℕ). first_of layout size (branch_fields 0 k) (drop 8 r.rest)) (sym same) ∙ at.none) in
-    front_spelled layout bytes h size (At place.Nr ∷ branch_fields 0 told) r one stack kind few sized
+    let same : told ≡ one.n = tells ∙ nr_told layout bytes h size (nr_fields layout told) r one in
+    let free = ap (λ (k : ℕ). first_of layout size (index_fields layout ++ branch_fields 0 k) behind) (sym same) ∙ at.none in
+    let x = index_read layout size (branch_fields 0 one.n) r.sample behind r.fits r.range (are_behind 8 r.rest r.are) free in
+    let stack = stack_read one.n layout size 0 x.rest x.are x.none in
+    front_spelled layout bytes h size (nr_fields layout told) (branch_fields 0 one.n) r one x stack kind few sized
 
 pub front_read : (layout : LayoutWords) (bytes : List ℕ) → AreBytes bytes → first_break layout bytes ≡ None → FrontRead layout bytes
 unfolding first_break fields_of
 front_read layout bytes are free =
-    let told = number_at (fixed_len layout - 8) 8 bytes in
-    let qs = At place.Nr ∷ branch_fields 0 told in
+    let told = number_at (nr_at layout) 8 bytes in
+    let fs = map At (fields_in layout all_fields) ++ branch_fields 0 told in
     let size = number_at 6 2 bytes in
-    let top = passed layout size Header (behind layout 0 ++ qs) bytes free in
+    let top = passed layout size Header fs bytes free in
     let h = header_of bytes top.long are in
     let right = right_both (nat_eq (number_at 0 4 bytes) 9) (is_size layout size) fault.Kind fault.Size top.right in
     let kind : h.kind ≡ 9 = sym (ap (number_at 0 4) h.is ∙ kind_read h.kind h.misc h.size (drop 8 bytes) h.small_kind) ∙ eqb-true (number_at 0 4 bytes) 9 right.0 in
-    front_joined layout told bytes h (rows_read layout size h.misc qs (drop 8 bytes) h.small_misc (are_behind 8 bytes are) top.none) kind refl
+    let none = ap (λ (l : List Field). first_of layout size l (drop 8 bytes)) (sym (fields_split layout told)) ∙ top.none in
+    front_joined layout told bytes h (rows_read layout size h.misc (nr_fields layout told) (drop 8 bytes) h.small_misc (are_behind 8 bytes are) none) kind refl

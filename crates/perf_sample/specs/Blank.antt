@@ -15,5 +15,6 @@ blank = record {
   stream_id = 0;
   cpu = 0;
   period = 0;
+  hw_index = 0;
   branches = [];
 }

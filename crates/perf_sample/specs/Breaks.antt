@@ -1,9 +1,8 @@
 -- Where bytes break a layout: at the first field from the left that is broken (perf_event.h, PERF_RECORD_SAMPLE). Each field
 -- has eight bytes.
-use Rattle.std.specs.Prelude.{◌≡◌, ◌≢◌, ℕ, zero, suc, ◌+◌, ◌*◌, ◌-◌, ◌%◌, Bool, true, false, ◌&&◌, if◌then◌else◌, nat_eq, nat_le, nat_lt, List, [], ◌∷◌, ◌++◌, length, drop, Option, Some, None}
-use Rattle.std.specs.List.{flat_map}
+use Rattle.std.specs.Prelude.{◌≡◌, ◌≢◌, ℕ, zero, suc, ◌+◌, ◌*◌, ◌-◌, ◌%◌, Bool, true, false, ◌&&◌, if◌then◌else◌, nat_eq, nat_le, nat_lt, List, [], ◌∷◌, ◌++◌, map, length, drop, Option, Some, None}
 use Rattle.byteorder.specs.Endian.{little_number}
-use Rattle.perf_sample.specs.Layout.{LayoutWords, has, fixed_len}
+use Rattle.perf_sample.specs.Layout.{LayoutWords, all_fields, fields_in, fixed_len, nr_at}
 use Rattle.perf_sample.specs.declared.flags.TheConstants.{FIRST_RESERVED, BRANCH_SIZE, PERF_RECORD_SAMPLE}
 use Rattle.perf_sample.specs.declared.faults.Place.{Place}
 use Rattle.perf_sample.specs.declared.faults.Place.TheVariants as place
@@ -19,29 +18,19 @@ abbrev pub is_size : LayoutWords → ℕ → Bool
 is_size layout size =
     nat_le (fixed_len layout) size && nat_le size (fixed_len layout + BRANCH_SIZE * 256) && nat_eq ((size - fixed_len layout) % BRANCH_SIZE) 0
 
--- a field of the header's sample, or the header itself
+-- the header, or a field behind it
 pub data Field : Type 0 where
   Header : Field
   At : Place → Field
-
--- the fields that a layout may leave out, each with its bit, in their order
-abbrev pub rows : List (ℕ × Place)
-rows =
-    (16, place.Identifier) ∷ (0, place.Ip) ∷ (1, place.Tid) ∷ (2, place.Time) ∷ (3, place.Addr) ∷ (6, place.Id)
-    ∷ (9, place.StreamId) ∷ (7, place.Cpu) ∷ (8, place.Period) ∷ []
-
--- the field of a row, where the layout has it
-abbrev pub row_fields : LayoutWords → ℕ × Place → List Field
-row_fields layout row = if has layout row.0 then At row.1 ∷ [] else []
 
 -- from, to and flags of so many branches, from this number on
 unfoldable pub branch_fields : ℕ → ℕ → List Field
 branch_fields i zero = []
 branch_fields i (suc n) = At (place.From i) ∷ At (place.To i) ∷ At (place.Flags i) ∷ branch_fields (suc i) n
 
--- the fields of a sample with so many branches, in their order
+-- all fields of a sample with so many branches, in their order
 unfoldable pub fields_of : LayoutWords → ℕ → List Field
-fields_of layout nr = Header ∷ flat_map (row_fields layout) rows ++ At place.Nr ∷ branch_fields 0 nr
+fields_of layout nr = Header ∷ (map At (fields_in layout all_fields) ++ branch_fields 0 nr)
 
 -- the fault where the bytes end in a field or in its place
 abbrev pub cut_in : Field → SampleFault
@@ -77,10 +66,10 @@ first_of layout size [] bytes = None
 first_of layout size (field ∷ fields) bytes =
     or_on (fault_in layout size field bytes) (drop 8 bytes) (first_of layout size fields (drop 8 bytes))
 
--- the same of all fields of a sample. The header tells the size, and the last field before the branches how many they are
+-- the same of all fields of a sample. The header tells the size, and a field behind it how many branches there are
 unfoldable pub first_break : LayoutWords → List ℕ → Option (SampleFault × List ℕ)
 first_break layout bytes =
-    first_of layout (number_at 6 2 bytes) (fields_of layout (number_at (fixed_len layout - 8) 8 bytes)) bytes
+    first_of layout (number_at 6 2 bytes) (fields_of layout (number_at (nr_at layout) 8 bytes)) bytes
 
 -- the bytes break the layout with this fault; the rest follows the broken field
 pub record Breaks (layout : LayoutWords) (bytes : List ℕ) (f : SampleFault) (rest : List ℕ) : Type 0 where

@@ -1,10 +1,14 @@
--- Which fields a sample has (perf_event.h, sample_type), and which samples a layout can hold.
-use Rattle.std.specs.Prelude.{◌≡◌, ℕ, ◌+◌, ◌/◌, ◌%◌, ◌^◌, ◌<◌, Bool, true, false, not, ◌&&◌, if◌then◌else◌, nat_eq, bit_and, List, All}
-use Rattle.perf_sample.specs.declared.flags.TheConstants.{FIRST_RESERVED}
+-- Which fields a sample has (`perf_event.h`, struct perf_event_attr), and which samples a layout can hold.
+use Rattle.std.specs.Prelude.{◌≡◌, ℕ, ◌+◌, ◌*◌, ◌/◌, ◌%◌, ◌^◌, ◌<◌, Bool, true, false, not, ◌&&◌, ◌||◌, if◌then◌else◌, nat_eq, bit_and, List, [], ◌∷◌, ◌++◌, length, All}
+use Rattle.std.specs.List.{AllByRecursion}
+use Rattle.perf_sample.specs.Words.{word_of, IsZero}
+use Rattle.perf_sample.specs.declared.faults.Place.{Place}
+use Rattle.perf_sample.specs.declared.faults.Place.TheVariants as place
+use Rattle.perf_sample.specs.declared.flags.TheConstants.{FIRST_RESERVED, HW_INDEX}
 use Rattle.perf_sample.specs.declared.sample.Branch.{Branch}
 use Rattle.perf_sample.specs.declared.sample.Sample.{Sample}
 
--- the words of perf_event_attr that lay out a sample: sample_type, and branch_sample_type as far as it is known here
+-- the words that lay out a sample: sample_type, and of branch_sample_type what is known here
 pub record LayoutWords : Type 0 where
   pub sample_type : ℕ
   pub branch : ℕ
@@ -20,26 +24,56 @@ is_layout bits = nat_eq (bit_and bits 0x10BCF) bits && not (nat_eq (bit_and bits
 abbrev pub IsLayout : ℕ → Type 0
 IsLayout bits = is_layout bits ≡ true
 
--- whether the layout has the field of the bit 2 ^ place
-abbrev pub has : LayoutWords → ℕ → Bool
-has layout place = nat_eq (layout.sample_type / 2 ^ place % 2) 1
+-- no bit, or the hardware index alone
+abbrev pub is_branch_word : ℕ → Bool
+is_branch_word bits = nat_eq bits 0 || nat_eq bits HW_INDEX
 
-abbrev pub width : LayoutWords → ℕ → ℕ
-width layout place = if has layout place then 8 else 0
+abbrev pub IsBranchWord : ℕ → Type 0
+IsBranchWord bits = is_branch_word bits ≡ true
 
--- how many bytes the fields between the header and the number of branches have
-unfoldable pub fields_len : LayoutWords → ℕ
-fields_len layout =
-    width layout 16 + width layout 0 + width layout 1 + width layout 2 + width layout 3 + width layout 6
-    + width layout 9 + width layout 7 + width layout 8
+-- whether sample_type has the bit 2 ^ k
+abbrev pub has_bit : LayoutWords → ℕ → Bool
+has_bit layout k = nat_eq (layout.sample_type / 2 ^ k % 2) 1
 
--- the length of a sample without branches: the header, those fields, and the number of branches
+-- whether a layout has a field
+abbrev pub has : LayoutWords → Place → Bool
+has layout place.Identifier = has_bit layout 16
+has layout place.Ip = has_bit layout 0
+has layout place.Tid = has_bit layout 1
+has layout place.Time = has_bit layout 2
+has layout place.Addr = has_bit layout 3
+has layout place.Id = has_bit layout 6
+has layout place.StreamId = has_bit layout 9
+has layout place.Cpu = has_bit layout 7
+has layout place.Period = has_bit layout 8
+has layout place.HwIndex = nat_eq layout.branch HW_INDEX
+has layout _ = true
+
+-- the fields before the number of branches, in their order
+abbrev pub before_nr : List Place
+before_nr =
+    place.Identifier ∷ place.Ip ∷ place.Tid ∷ place.Time ∷ place.Addr ∷ place.Id ∷ place.StreamId ∷ place.Cpu ∷ place.Period ∷ []
+
+-- the fields between the header and the branches, in their order
+abbrev pub all_fields : List Place
+all_fields = before_nr ++ (place.Nr ∷ place.HwIndex ∷ [])
+
+-- those of some fields that a layout has
+unfoldable pub fields_in : LayoutWords → List Place → List Place
+fields_in layout [] = []
+fields_in layout (p ∷ ps) = if has layout p then p ∷ fields_in layout ps else fields_in layout ps
+
+-- the length of a sample without branches: the header and those fields, of eight bytes each
 unfoldable pub fixed_len : LayoutWords → ℕ
-fixed_len layout = 16 + fields_len layout
+fixed_len layout = 8 + 8 * length (fields_in layout all_fields)
+
+-- where the number of branches stands
+unfoldable pub nr_at : LayoutWords → ℕ
+nr_at layout = 8 + 8 * length (fields_in layout before_nr)
 
 -- a field that is left out is 0
-abbrev pub LeftOut : LayoutWords → ℕ → ℕ → Type 0
-LeftOut layout place value = has layout place ≡ false → value ≡ 0
+abbrev pub LeftOut : LayoutWords → Sample → Place → Type 0
+LeftOut layout s p = has layout p ≡ false → IsZero (word_of p s)
 
 -- no reserved flag: those are the bits from 33 up
 abbrev pub FlagsFit : List Branch → Type 0
@@ -47,14 +81,5 @@ FlagsFit branches = All (λ b. b.flags < FIRST_RESERVED) branches
 
 -- the layout can hold the sample
 pub record Fits (layout : LayoutWords) (sample : Sample) : Type 0 where
-  pub identifier : LeftOut layout 16 sample.identifier
-  pub ip : LeftOut layout 0 sample.ip
-  pub pid : LeftOut layout 1 sample.pid
-  pub tid : LeftOut layout 1 sample.tid
-  pub time : LeftOut layout 2 sample.time
-  pub addr : LeftOut layout 3 sample.addr
-  pub id : LeftOut layout 6 sample.id
-  pub stream_id : LeftOut layout 9 sample.stream_id
-  pub cpu : LeftOut layout 7 sample.cpu
-  pub period : LeftOut layout 8 sample.period
+  pub left_out : AllByRecursion (LeftOut layout sample) all_fields
   pub flags : FlagsFit sample.branches

@@ -1,3 +1,4 @@
+pub mod Words
 pub mod Layout
 pub mod Spelling
 pub mod Breaks

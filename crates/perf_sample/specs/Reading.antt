@@ -7,8 +7,8 @@ use Rattle.perf_sample.specs.declared.sample.Branch.{Branch}
 use Rattle.perf_sample.specs.declared.sample.Sample.{Sample}
 use Rattle.perf_sample.specs.declared.header.Header.{Header}
 use Rattle.perf_sample.specs.Layout.{LayoutWords, fixed_len, FlagsFit}
-use Rattle.perf_sample.specs.declared.flags.TheConstants.{FIRST_RESERVED, BRANCH_SIZE, PERF_RECORD_SAMPLE}
-use Rattle.perf_sample.specs.Spelling.{le, branch_bytes, Spells}
+use Rattle.perf_sample.specs.declared.flags.TheConstants.{FIRST_RESERVED, BRANCH_SIZE}
+use Rattle.perf_sample.specs.Spelling.{le, header_bytes, branch_bytes, Spells}
 use Rattle.perf_sample.specs.Breaks.{Field, At, is_size, branch_fields, cut_in, first_of, Breaks}
 use Rattle.perf_sample.specs.declared.faults.Place.{Place}
 use Rattle.perf_sample.specs.declared.faults.Place.TheVariants as place
@@ -81,10 +81,6 @@ TakesBranches nr left left' (Err f) = (layout : LayoutWords) (size : ℕ) → St
 abbrev pub TakesNr : LayoutWords → ℕ → Option (List ℕ) → Option (List ℕ) → Result ℕ SampleFault → Type 0
 TakesNr layout size left left' (Ok nr) = Consumes left left' (le 8 nr) × (nr ≤ 256) × (size ≡ fixed_len layout + BRANCH_SIZE * nr)
 TakesNr layout size left left' (Err f) = Stopped (first_of layout size (At place.Nr ∷ [])) left left' f
-
--- the bytes of a header
-abbrev pub header_bytes : ℕ → ℕ → List ℕ
-header_bytes misc size = le 4 PERF_RECORD_SAMPLE ++ le 2 misc ++ le 2 size
 
 -- bytes that a failed read cut off: none, or those of a field that is cut short, and of the fields before it
 abbrev pub IsPartial : LayoutWords → List ℕ → Type 0

@@ -1,44 +1,48 @@
--- The fields between the header and the number of branches, one row of the table each.
-use Rattle.std.specs.Prelude.{◌≡◌, ℕ, ◌<◌, ◌^◌, List, [], ◌∷◌, ◌++◌, Option, Result, Ok, Err}
+-- What reading the fields between the header and the branches does to the sample.
+use Rattle.std.specs.Prelude.{◌≡◌, ℕ, ◌<◌, ◌^◌, List, [], ◌∷◌, ◌++◌, map, Option, Result, Ok, Err}
 use Rattle.std.specs.Io.KnownBytes.{Consumes}
-use Rattle.std.specs.List.{flat_map}
+use Rattle.std.specs.List.{AllByRecursion}
 use Rattle.perf_sample.specs.declared.sample.Sample.{Sample}
+use Rattle.perf_sample.specs.declared.words.Word.{Word}
+use Rattle.perf_sample.specs.declared.words.Word.TheVariants as word
 use Rattle.perf_sample.specs.declared.faults.Place.{Place}
 use Rattle.perf_sample.specs.declared.faults.Place.TheVariants as place
 use Rattle.perf_sample.specs.declared.faults.SampleFault.{SampleFault}
 use Rattle.perf_sample.specs.declared.faults.SampleFault.TheVariants as fault
-use Rattle.perf_sample.specs.Layout.{LayoutWords, Fits}
-use Rattle.perf_sample.specs.Spelling.{le, fields}
-use Rattle.perf_sample.specs.Breaks.{At, rows, row_fields, first_of}
+use Rattle.perf_sample.specs.Words.{word_of}
+use Rattle.perf_sample.specs.Layout.{LayoutWords, before_nr, fields_in, Fits}
+use Rattle.perf_sample.specs.Spelling.{le, place_bytes, fields_bytes}
+use Rattle.perf_sample.specs.Breaks.{At, first_of}
 use Rattle.perf_sample.specs.Reading.{Stopped}
 
--- the bytes of a field of the table
-abbrev pub place_bytes : Place → Sample → List ℕ
-place_bytes place.Identifier s = le 8 s.identifier
-place_bytes place.Ip s = le 8 s.ip
-place_bytes place.Tid s = le 4 s.pid ++ le 4 s.tid
-place_bytes place.Time s = le 8 s.time
-place_bytes place.Addr s = le 8 s.addr
-place_bytes place.Id s = le 8 s.id
-place_bytes place.StreamId s = le 8 s.stream_id
-place_bytes place.Cpu s = le 4 s.cpu ++ le 4 0
-place_bytes place.Period s = le 8 s.period
-place_bytes _ s = []
+-- the number of a word, or its lower half; and its upper half
+abbrev pub low_of : Word → ℕ
+low_of (word.Whole number) = number
+low_of (word.Halves low high) = low
+
+abbrev pub high_of : Word → ℕ
+high_of (word.Whole number) = 0
+high_of (word.Halves low high) = high
+
+-- the sample with a word in this field
+abbrev pub with_word : Place → Word → Sample → Sample
+with_word place.Identifier w s = record s { identifier = low_of w }
+with_word place.Ip w s = record s { ip = low_of w }
+with_word place.Tid w s = record s { pid = low_of w; tid = high_of w }
+with_word place.Time w s = record s { time = low_of w }
+with_word place.Addr w s = record s { addr = low_of w }
+with_word place.Id w s = record s { id = low_of w }
+with_word place.StreamId w s = record s { stream_id = low_of w }
+with_word place.Cpu w s = record s { cpu = low_of w }
+with_word place.Period w s = record s { period = low_of w }
+with_word place.HwIndex w s = record s { hw_index = low_of w }
+with_word _ w s = s
 
 -- nothing but this field changed
 abbrev pub SetsOnly : Place → Sample → Sample → Type 0
-SetsOnly place.Identifier old new = new ≡ record old { identifier = new.identifier }
-SetsOnly place.Ip old new = new ≡ record old { ip = new.ip }
-SetsOnly place.Tid old new = new ≡ record old { pid = new.pid; tid = new.tid }
-SetsOnly place.Time old new = new ≡ record old { time = new.time }
-SetsOnly place.Addr old new = new ≡ record old { addr = new.addr }
-SetsOnly place.Id old new = new ≡ record old { id = new.id }
-SetsOnly place.StreamId old new = new ≡ record old { stream_id = new.stream_id }
-SetsOnly place.Cpu old new = new ≡ record old { cpu = new.cpu }
-SetsOnly place.Period old new = new ≡ record old { period = new.period }
-SetsOnly _ old new = new ≡ old
+SetsOnly p old new = new ≡ with_word p (word_of p new) old
 
--- the bytes hold a field, if it is one of the table
+-- the bytes hold a field that has a place of its own in a sample
 abbrev pub Holds : Place → List ℕ → Sample → Type 0
 Holds place.Nr bytes s = Unit {0}
 Holds (place.From i) bytes s = Unit {0}
@@ -50,15 +54,38 @@ Holds p bytes s = place_bytes p s ≡ bytes
 abbrev pub PutsIn : Place → List ℕ → Sample → Sample → Result (Unit {0}) SampleFault → Type 0
 PutsIn p bytes old new (Ok _) = Holds p bytes new × SetsOnly p old new
 PutsIn p bytes old new (Err f) =
-    (f ≡ fault.CpuReserved) × (p ≡ place.Cpu) × (cpu : ℕ) × (reserved : ℕ) × (le 4 cpu ++ le 4 reserved ≡ bytes) × (reserved ≡ 0 → ⊥) × (reserved < 2 ^ 32)
+    (f ≡ fault.CpuReserved)
+    × (p ≡ place.Cpu)
+    × (cpu : ℕ)
+    × (reserved : ℕ)
+    × (le 4 cpu ++ le 4 reserved ≡ bytes)
+    × (reserved ≡ 0 → ⊥)
+    × (reserved < 2 ^ 32)
 
--- a field of the table was taken
+-- a field was taken
 abbrev pub TakesRow : Place → Option (List ℕ) → Option (List ℕ) → Sample → Sample → Result (Unit {0}) SampleFault → Type 0
 TakesRow p left left' old new (Ok _) = (bytes : List ℕ) × Consumes left left' bytes × Holds p bytes new × SetsOnly p old new
 TakesRow p left left' old new (Err f) = (layout : LayoutWords) (size : ℕ) → Stopped (first_of layout size (At p ∷ [])) left left' f
 
--- the fields that the layout has were taken, and nothing else of the sample changed
+-- the fields before the number of branches that the layout has were taken, and nothing else of the sample changed
 abbrev pub TakesRows : LayoutWords → Option (List ℕ) → Option (List ℕ) → Sample → Sample → Result (Unit {0}) SampleFault → Type 0
 TakesRows layout left left' old new (Ok _) =
-    Consumes left left' (fields layout new) × Fits layout new × (new.misc ≡ old.misc) × (new.branches ≡ old.branches)
-TakesRows layout left left' old new (Err f) = (size : ℕ) → Stopped (first_of layout size (flat_map (row_fields layout) rows)) left left' f
+    Consumes left left' (fields_bytes new (fields_in layout before_nr))
+    × Fits layout new
+    × (new.misc ≡ old.misc)
+    × (new.branches ≡ old.branches)
+TakesRows layout left left' old new (Err f) = (size : ℕ) → Stopped (first_of layout size (map At (fields_in layout before_nr))) left left' f
+
+-- two samples have the same word in a field
+abbrev pub SameWord : Sample → Sample → Place → Type 0
+SameWord s t p = word_of p s ≡ word_of p t
+
+-- the hardware index was taken where the layout has it, and nothing else of the sample changed
+abbrev pub TakesHwIndex : LayoutWords → Option (List ℕ) → Option (List ℕ) → Sample → Sample → Result (Unit {0}) SampleFault → Type 0
+TakesHwIndex layout left left' old new (Ok _) =
+    Consumes left left' (fields_bytes new (fields_in layout (place.HwIndex ∷ [])))
+    × Fits layout new
+    × AllByRecursion (SameWord old new) before_nr
+    × (new.misc ≡ old.misc)
+TakesHwIndex layout left left' old new (Err f) =
+    (size : ℕ) → Stopped (first_of layout size (map At (fields_in layout (place.HwIndex ∷ [])))) left left' f

@@ -16,6 +16,8 @@ pub enum Place {
     Period,
     /// The number of branches.
     Nr,
+    /// The hardware index, behind the number of branches.
+    HwIndex,
     From(u16),
     To(u16),
     Flags(u16),

@@ -24,6 +24,9 @@ pub const TYPE: u64 = 1 << 20;
 /// The first reserved bit of the flags of a branch. The bits from it up to 63 are reserved.
 pub const FIRST_RESERVED: u64 = 1 << 33;
 
+/// The bit PERF_SAMPLE_BRANCH_HW_INDEX of the branch word (enum perf_branch_sample_type).
+pub const HW_INDEX: u64 = 0x20000;
+
 /// The mode of a sample in misc: the kernel.
 pub const MISC_KERNEL: u16 = 1;
 

@@ -1,33 +1,44 @@
 //! Which fields a sample has.
 
-ghost use Rattle.std.specs.Prelude.{◌≡◌, ◌≤◌, ◌<◌, IsTrue, IsNone, IfSome, ◌↔◌};
-ghost use Rattle.perf_sample.specs.Layout.{IsLayout, of_sample_type, has, width, fixed_len, LeftOut, FlagsFit, Fits};
+ghost use Rattle.std.specs.Prelude.{◌≡◌, ◌≤◌, ◌<◌, IsTrue, IsNone, IfSome, All, ◌↔◌};
+ghost use Rattle.perf_sample.specs.Layout.{IsLayout, IsBranchWord, of_sample_type, has_bit, has, all_fields, fixed_len, LeftOut, FlagsFit, Fits};
 ghost use Rattle.perf_sample.specs.Breaks.{is_size};
 
-use crate::flags::{BRANCH_SIZE, FIRST_RESERVED};
+use crate::faults::Place;
+use crate::flags::{BRANCH_SIZE, FIRST_RESERVED, HW_INDEX};
 use crate::sample::{Branch, Sample};
+use crate::words::word_of;
 use std::marker::Model;
 
-/// The number of the bit PERF_SAMPLE_IP of a layout; those below it are named alike.
-pub(crate) const IP: u32 = 0;
+/// The fields before the number of branches, in their order.
+pub(crate) const BEFORE_NR: [Place; 9] = [
+    Place::Identifier,
+    Place::Ip,
+    Place::Tid,
+    Place::Time,
+    Place::Addr,
+    Place::Id,
+    Place::StreamId,
+    Place::Cpu,
+    Place::Period,
+];
 
-pub(crate) const TID: u32 = 1;
+/// The fields between the header and the branches, in their order.
+pub(crate) const ALL_FIELDS: [Place; 11] = [
+    Place::Identifier,
+    Place::Ip,
+    Place::Tid,
+    Place::Time,
+    Place::Addr,
+    Place::Id,
+    Place::StreamId,
+    Place::Cpu,
+    Place::Period,
+    Place::Nr,
+    Place::HwIndex,
+];
 
-pub(crate) const TIME: u32 = 2;
-
-pub(crate) const ADDR: u32 = 3;
-
-pub(crate) const ID: u32 = 6;
-
-pub(crate) const CPU: u32 = 7;
-
-pub(crate) const PERIOD: u32 = 8;
-
-pub(crate) const STREAM_ID: u32 = 9;
-
-pub(crate) const IDENTIFIER: u32 = 16;
-
-/// Every bit that a layout may have: those above, and PERF_SAMPLE_BRANCH_STACK.
+/// Every bit that a layout may have.
 const KNOWN: u64 = 0x10BCF;
 
 /// PERF_SAMPLE_BRANCH_STACK, which every layout has.
@@ -41,13 +52,13 @@ pub struct Layout {
 }
 
 impl Model for Layout {
-    ghost use Rattle.perf_sample.specs.Layout.{LayoutWords, IsLayout};
+    ghost use Rattle.perf_sample.specs.Layout.{LayoutWords, IsLayout, IsBranchWord};
 
     ghost Value = { LayoutWords };
 
     ghost view = { λ l. record { sample_type = l.bits; branch = l.branch } };
 
-    ghost invariant = { λ l. IsLayout l.bits };
+    ghost invariant = { λ l. IsLayout l.bits × IsBranchWord l.branch };
 
     ghost inverse = { λ words. record { bits = words.sample_type; branch = words.branch } };
 }
@@ -73,38 +84,68 @@ impl Layout {
         self.bits
     }
 
-    // Whether the layout has the field of a bit.
-    pub(crate) fn has(self, place: u32) -> bool
-        requires { place < 64 }
-        ensures { result ≡ has self place }
+    /// The same fields with another branch word, where that is 0 or [`HW_INDEX`](crate::HW_INDEX).
+    pub fn with_branch(self, bits: u64) -> Option<Layout>
+        ensures some { IfSome result (λ layout. layout ≡ record self { branch = bits }) }
+        ensures none { IsNone result ↔ (IsBranchWord bits → ⊥) }
     {
-        (self.bits >> place) % 2 == 1
+        if bits == 0 || bits == HW_INDEX {
+            Some(Layout {
+                bits: self.bits,
+                branch: bits,
+            })
+        } else {
+            None
+        }
     }
 
-    // The length of a field of eight bytes, or 0 where it is left out.
-    fn width(self, place: u32) -> u16
-        requires { place < 64 }
-        ensures len { result ≡ width self place }
-        ensures most { result ≤ 8 }
+    /// The branch word, of the word branch_sample_type.
+    pub fn branch_bits(self) -> u64
+        ensures bits { result ≡ self.branch }
+        ensures known { IsBranchWord self.branch }
     {
-        if self.has(place) { 8 } else { 0 }
+        self.branch
+    }
+
+    // Whether sample_type has a bit.
+    fn has_bit(self, bit: u32) -> bool
+        requires { bit < 64 }
+        ensures { result ≡ has_bit self bit }
+    {
+        (self.bits >> bit) % 2 == 1
+    }
+
+    // Whether the layout has a field (enum perf_event_sample_format).
+    pub(crate) fn has(self, place: Place) -> bool
+        ensures { result ≡ has self place }
+    {
+        match place {
+            Place::Identifier => self.has_bit(16),
+            Place::Ip => self.has_bit(0),
+            Place::Tid => self.has_bit(1),
+            Place::Time => self.has_bit(2),
+            Place::Addr => self.has_bit(3),
+            Place::Id => self.has_bit(6),
+            Place::StreamId => self.has_bit(9),
+            Place::Cpu => self.has_bit(7),
+            Place::Period => self.has_bit(8),
+            Place::HwIndex => self.branch == HW_INDEX,
+            Place::Nr | Place::From(_) | Place::To(_) | Place::Flags(_) => true,
+        }
     }
 
     // The length of a sample without branches, in bytes.
-    #[tactic(auto, unfolding(crate::specs::Layout::fixed_len, crate::specs::Layout::fields_len))]
     pub(crate) fn fixed_len(self) -> u16
         ensures len { result ≡ fixed_len self }
-        ensures most { result ≤ 88 }
+        ensures most { result ≤ 96 }
     {
-        16 + self.width(IDENTIFIER)
-            + self.width(IP)
-            + self.width(TID)
-            + self.width(TIME)
-            + self.width(ADDR)
-            + self.width(ID)
-            + self.width(STREAM_ID)
-            + self.width(CPU)
-            + self.width(PERIOD)
+        let mut len = 8;
+        for place in ALL_FIELDS {
+            if self.has(place) {
+                len += 8;
+            }
+        }
+        len
     }
 
     // Whether a sample may have this size, by how many branches it has.
@@ -115,29 +156,30 @@ impl Layout {
         size >= fixed && size <= fixed + BRANCH_SIZE * 256 && (size - fixed) % BRANCH_SIZE == 0
     }
 
-    // Whether a field has the value that the layout lets it have: any where it is there, 0 where it is left out.
-    fn takes(self, place: u32, value: u64) -> bool
-        requires { place < 64 }
-        ensures { IsTrue result ↔ LeftOut self place value }
+    // Whether a field has a value that the layout lets it have: any where it is there, 0 where it is left out.
+    fn takes(self, sample: &Sample, place: Place) -> bool
+        ensures { IsTrue result ↔ LeftOut self sample.now place }
     {
-        value == 0 || self.has(place)
+        self.has(place) || word_of(sample, place).is_zero()
+    }
+
+    // The same of all fields between the header and the branches.
+    fn takes_all(self, sample: &Sample) -> bool
+        ensures { IsTrue result ↔ All (LeftOut self sample.now) all_fields }
+    {
+        for place in ALL_FIELDS {
+            if !self.takes(sample, place) {
+                return false;
+            }
+        }
+        true
     }
 
     /// Whether a sample can be written in this layout: each field that is left out is 0, and no branch has a reserved flag.
     pub fn fits(self, sample: &Sample) -> bool
         ensures { IsTrue result ↔ Fits self sample.now }
     {
-        self.takes(IDENTIFIER, sample.identifier)
-            && self.takes(IP, sample.ip)
-            && self.takes(TID, sample.pid as u64)
-            && self.takes(TID, sample.tid as u64)
-            && self.takes(TIME, sample.time)
-            && self.takes(ADDR, sample.addr)
-            && self.takes(ID, sample.id)
-            && self.takes(STREAM_ID, sample.stream_id)
-            && self.takes(CPU, sample.cpu as u64)
-            && self.takes(PERIOD, sample.period)
-            && flags_fit(sample.branches.items())
+        self.takes_all(sample) && flags_fit(sample.branches.items())
     }
 }
 

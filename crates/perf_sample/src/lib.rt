@@ -18,13 +18,14 @@ mod reader;
 mod rows;
 mod sample;
 mod whole;
+mod words;
 mod writing;
 
 pub use branches::Branches;
 pub use faults::{Place, SampleFault};
 pub use flags::{
-    BRANCH_SIZE, FIRST_RESERVED, MISC_GUEST_KERNEL, MISC_GUEST_USER, MISC_HYPERVISOR, MISC_KERNEL,
-    MISC_USER, MISPRED, PERF_RECORD_SAMPLE, PREDICTED, TYPE,
+    BRANCH_SIZE, FIRST_RESERVED, HW_INDEX, MISC_GUEST_KERNEL, MISC_GUEST_USER, MISC_HYPERVISOR,
+    MISC_KERNEL, MISC_USER, MISPRED, PERF_RECORD_SAMPLE, PREDICTED, TYPE,
 };
 pub use laws::{no_proper_prefix, one_of_three};
 pub use layout::Layout;

@@ -40,13 +40,13 @@ impl Model for SampleReader {
 
     ghost view = { λ r. record { layout = r.layout; refused = r.refused; given = r.given; taken = r.taken; offset = r.offset } };
 
-    ghost invariant = { λ r. (r.given ≤ 16777216) × (r.taken ≤ 6232 * r.given) };
+    ghost invariant = { λ r. (r.given ≤ 16777216) × (r.taken ≤ 6240 * r.given) };
 }
 
 // How many bytes a sample has in a layout.
 fn length_of(layout: Layout, sample: &Sample) -> u64
     ensures len { result ≡ length (spelling layout sample.now) }
-    ensures most { result ≤ 6232 }
+    ensures most { result ≤ 6240 }
 {
     layout.fixed_len() as u64 + BRANCH_SIZE as u64 * sample.branches.items().len() as u64
 }

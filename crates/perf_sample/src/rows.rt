@@ -1,32 +1,19 @@
-//! The fields between the header and the number of branches, each read where the layout has it.
+//! The fields between the header and the branches, each read where the layout has it.
 
 ghost use Rattle.std.specs.Prelude.{◌≡◌, ◌≤◌, [], true, OnOk};
 ghost use Rattle.ctr_port.specs.Counts.{Rose};
 ghost use Rattle.perf_sample.specs.Layout.{has, Fits};
 ghost use Rattle.perf_sample.specs.Range.{IsSample};
-ghost use Rattle.perf_sample.specs.Rows.{PutsIn, TakesRow, TakesRows};
+ghost use Rattle.perf_sample.specs.Rows.{PutsIn, TakesRow, TakesRows, TakesHwIndex};
 
 use crate::branch::read_place;
 use crate::faults::{Place, SampleFault};
-use crate::layout::{ADDR, CPU, ID, IDENTIFIER, IP, Layout, PERIOD, STREAM_ID, TID, TIME};
+use crate::layout::{BEFORE_NR, Layout};
 use crate::numbers::{halves, number};
 use crate::sample::Sample;
 use ctr_port::Source;
 
-/// Each field with its bit in the layout, in their order.
-const ROWS: [(u32, Place); 9] = [
-    (IDENTIFIER, Place::Identifier),
-    (IP, Place::Ip),
-    (TID, Place::Tid),
-    (TIME, Place::Time),
-    (ADDR, Place::Addr),
-    (ID, Place::Id),
-    (STREAM_ID, Place::StreamId),
-    (CPU, Place::Cpu),
-    (PERIOD, Place::Period),
-];
-
-// Puts the bytes of a field of the table into the sample.
+// Puts the bytes of a field into the sample. The number of branches and the fields of a branch have no place of their own in it.
 fn put_in(sample: &mut Sample, place: Place, bytes: &[u8; 8]) -> Result<(), SampleFault>
     ensures puts { PutsIn place bytes.now sample.old sample.new result }
     ensures range { IsSample sample.old → IsSample sample.new }
@@ -51,12 +38,13 @@ fn put_in(sample: &mut Sample, place: Place, bytes: &[u8; 8]) -> Result<(), Samp
             sample.cpu = cpu;
         }
         Place::Period => sample.period = number(bytes),
+        Place::HwIndex => sample.hw_index = number(bytes),
         Place::Nr | Place::From(_) | Place::To(_) | Place::Flags(_) => {}
     }
     Ok(())
 }
 
-// Reads a field of the table into the sample.
+// Reads a field into the sample.
 fn read_row<S: Source>(source: &mut S, place: Place, sample: &mut Sample) -> Result<(), SampleFault>
     ensures takes { TakesRow place (S.left source.old) (S.left source.new) sample.old sample.new result }
     ensures range { IsSample sample.old → IsSample sample.new }
@@ -67,7 +55,7 @@ fn read_row<S: Source>(source: &mut S, place: Place, sample: &mut Sample) -> Res
     put_in(sample, place, &bytes)
 }
 
-/// Reads the fields of the table that the layout has into a sample that has none of them yet.
+/// Reads the fields before the number of branches into a sample that has none of them yet.
 pub(crate) fn read_rows<S: Source>(
     source: &mut S,
     layout: Layout,
@@ -79,10 +67,28 @@ pub(crate) fn read_rows<S: Source>(
     ensures later { S.faults source.old ≤ S.faults source.new }
     ensures cause { result ≡ Err SampleFault.ReadFault → Rose (S.faults source.old) (S.faults source.new) }
 {
-    for (bit, place) in ROWS {
-        if layout.has(bit) {
+    for place in BEFORE_NR {
+        if layout.has(place) {
             read_row(source, place, sample)?;
         }
+    }
+    Ok(())
+}
+
+/// Reads the hardware index, where the layout has it.
+pub(crate) fn read_hw_index<S: Source>(
+    source: &mut S,
+    layout: Layout,
+    sample: &mut Sample,
+) -> Result<(), SampleFault>
+    requires { Fits layout sample.old }
+    ensures takes { TakesHwIndex layout (S.left source.old) (S.left source.new) sample.old sample.new result }
+    ensures range { IsSample sample.old → IsSample sample.new }
+    ensures later { S.faults source.old ≤ S.faults source.new }
+    ensures cause { result ≡ Err SampleFault.ReadFault → Rose (S.faults source.old) (S.faults source.new) }
+{
+    if layout.has(Place::HwIndex) {
+        read_row(source, Place::HwIndex, sample)?;
     }
     Ok(())
 }

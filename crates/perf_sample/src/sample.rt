@@ -42,6 +42,8 @@ pub struct Sample {
     pub cpu: u32,
     /// How many events lie between two samples.
     pub period: u64,
+    /// Where the hardware keeps the youngest branch. What it counts is the hardware's own.
+    pub hw_index: u64,
     /// The branch stack, youngest first.
     pub branches: Branches,
 }
@@ -63,6 +65,7 @@ impl Sample {
             stream_id: 0,
             cpu: 0,
             period: 0,
+            hw_index: 0,
             branches: Branches::new(),
         }
     }

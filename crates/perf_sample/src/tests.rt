@@ -91,6 +91,7 @@ fn every_field_has_its_place(rt: HostRuntime) -> Result<(), Fail> {
         stream_id: 0xA800_0000_0000_0018,
         cpu: 0xA900_0019,
         period: 0xAA00_0000_0000_001A,
+        hw_index: 0,
         branches,
     };
     let out = written(layout, &sample)?;

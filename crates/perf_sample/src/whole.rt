@@ -9,7 +9,7 @@ use crate::branch::{read_branches, read_nr};
 use crate::faults::SampleFault;
 use crate::header::read_header;
 use crate::layout::Layout;
-use crate::rows::read_rows;
+use crate::rows::{read_hw_index, read_rows};
 use crate::sample::Sample;
 use ctr_port::Source;
 
@@ -31,6 +31,7 @@ pub(crate) fn read_sample<S: Source>(
     sample.misc = header.misc;
     read_rows(source, layout, &mut sample)?;
     let nr = read_nr(source, layout, header.size)?;
+    read_hw_index(source, layout, &mut sample)?;
     sample.branches = read_branches(source, nr)?;
     Ok(Some(sample))
 }

@@ -3,18 +3,19 @@
 ghost use Rattle.std.specs.Prelude.{◌≡◌, ◌+◌, ◌*◌, ◌≤◌, ◌<◌, ◌^◌, ◌++◌, length, All};
 ghost use Rattle.std.specs.List.{flat_map};
 ghost use Rattle.arrayvec.specs.ArrayVec.{array_vec_len};
-ghost use Rattle.perf_sample.specs.Layout.{width, fields_len, fixed_len, Fits};
+ghost use Rattle.perf_sample.specs.Layout.{all_fields, fields_in, fixed_len, Fits};
 ghost use Rattle.perf_sample.specs.BranchRange.{IsBranch};
 ghost use Rattle.perf_sample.specs.Range.{IsSample};
-ghost use Rattle.perf_sample.specs.Spelling.{le, present, fields, branch_bytes, Spells};
+ghost use Rattle.perf_sample.specs.Spelling.{le, word_bytes, fields_bytes, branch_bytes, Spells};
 
 use crate::flags::{BRANCH_SIZE, PERF_RECORD_SAMPLE};
-use crate::layout::{ADDR, CPU, ID, IDENTIFIER, IP, Layout, PERIOD, STREAM_ID, TID, TIME};
+use crate::layout::{ALL_FIELDS, Layout};
 use crate::sample::{Branch, Sample};
+use crate::words::{Word, word_of};
 use arrayvec::ArrayVec;
 use byteorder::{ByteOrder, LittleEndian};
 
-/// Room for the bytes of one sample: at most 6,232 are written.
+/// Room for the bytes of one sample: at most 6,240 are written.
 pub type Buffer = ArrayVec<u8, 9216>;
 
 fn put(out: &mut Buffer, bytes: &[u8])
@@ -59,57 +60,38 @@ fn put_u64(out: &mut Buffer, number: u64)
     put(out, &bytes);
 }
 
-// A field of eight bytes, where the layout has it.
-fn put_field(out: &mut Buffer, layout: Layout, place: u32, number: u64)
-    requires place { place < 64 }
-    requires room { array_vec_len out.old + 8 ≤ 9216 }
-    ensures items { out.new.items ≡ out.old.items ++ present layout place (le 8 number) }
-    ensures len { array_vec_len out.new ≡ array_vec_len out.old + width layout place }
-    ensures most { array_vec_len out.new ≤ array_vec_len out.old + 8 }
-    ensures range { number < 2 ^ 64 }
+fn put_word(out: &mut Buffer, word: Word)
+    requires { array_vec_len out.old + 8 ≤ 9216 }
+    ensures items { out.new.items ≡ out.old.items ++ word_bytes word }
+    ensures len { array_vec_len out.new ≡ array_vec_len out.old + 8 }
 {
-    if layout.has(place) {
-        put_u64(out, number);
+    match word {
+        Word::Whole(number) => put_u64(out, number),
+        Word::Halves(low, high) => {
+            put_u32(out, low);
+            put_u32(out, high);
+        }
     }
 }
 
-// A field of two halves of four bytes, where the layout has it.
-fn put_pair(out: &mut Buffer, layout: Layout, place: u32, first: u32, second: u32)
-    requires place { place < 64 }
-    requires room { array_vec_len out.old + 8 ≤ 9216 }
-    ensures items { out.new.items ≡ out.old.items ++ present layout place (le 4 first ++ le 4 second) }
-    ensures len { array_vec_len out.new ≡ array_vec_len out.old + width layout place }
-    ensures most { array_vec_len out.new ≤ array_vec_len out.old + 8 }
-    ensures range { (first < 2 ^ 32) × (second < 2 ^ 32) }
-{
-    if layout.has(place) {
-        put_u32(out, first);
-        put_u32(out, second);
-    }
-}
-
-#[tactic(auto, unfolding(crate::specs::Spelling::fields, crate::specs::Layout::fields_len))]
 fn put_fields(out: &mut Buffer, layout: Layout, sample: &Sample)
     requires { array_vec_len out.old ≤ 8 }
-    ensures items { out.new.items ≡ out.old.items ++ fields layout sample.now }
-    ensures len { array_vec_len out.new ≡ array_vec_len out.old + fields_len layout }
-    ensures room { array_vec_len out.new ≤ 80 }
+    ensures items { out.new.items ≡ out.old.items ++ fields_bytes sample.now (fields_in layout all_fields) }
+    ensures len { array_vec_len out.new + 8 ≡ array_vec_len out.old + fixed_len layout }
+    ensures room { array_vec_len out.new ≤ 96 }
     ensures range { sample.now.misc < 2 ^ 16 → All IsBranch sample.now.branches → IsSample sample.now }
 {
-    put_field(out, layout, IDENTIFIER, sample.identifier);
-    put_field(out, layout, IP, sample.ip);
-    put_pair(out, layout, TID, sample.pid, sample.tid);
-    put_field(out, layout, TIME, sample.time);
-    put_field(out, layout, ADDR, sample.addr);
-    put_field(out, layout, ID, sample.id);
-    put_field(out, layout, STREAM_ID, sample.stream_id);
-    put_pair(out, layout, CPU, sample.cpu, 0);
-    put_field(out, layout, PERIOD, sample.period);
+    for place in ALL_FIELDS {
+        let word = word_of(sample, place);
+        if layout.has(place) {
+            put_word(out, word);
+        }
+    }
 }
 
 fn put_branches(out: &mut Buffer, branches: &[Branch])
     requires few { length branches.now ≤ 256 }
-    requires room { array_vec_len out.old ≤ 88 }
+    requires room { array_vec_len out.old ≤ 96 }
     ensures items { out.new.items ≡ out.old.items ++ flat_map branch_bytes branches.now }
     ensures len { array_vec_len out.new ≡ array_vec_len out.old + BRANCH_SIZE * length branches.now }
 {
@@ -124,9 +106,9 @@ fn put_branches(out: &mut Buffer, branches: &[Branch])
 /// `Layout::fits` tests.
 ///
 /// The bytes are the one spelling of the sample (`perf_event.h`, PERF_RECORD_SAMPLE): a header of type 9 with misc and
-/// size, the fields that the layout has, in their order, the number of branches, and from, to and flags of each. All
-/// numbers are little-endian.
-#[tactic(auto, unfolding(crate::specs::Spelling::spelling, crate::specs::Layout::fixed_len))]
+/// size, the fields that the layout has, in their order, the number of branches and the hardware index among them, and
+/// from, to and flags of each branch. All numbers are little-endian.
+#[tactic(auto, unfolding(crate::specs::Spelling::spelling))]
 pub fn encode(layout: Layout, sample: &Sample, out: &mut ArrayVec<u8, 9216>)
     requires { Fits layout sample.now }
     ensures spells { Spells layout sample.now out.new.items }
@@ -144,6 +126,5 @@ pub fn encode(layout: Layout, sample: &Sample, out: &mut ArrayVec<u8, 9216>)
         layout.fixed_len() + BRANCH_SIZE * branches.len() as u16,
     );
     put_fields(out, layout, sample);
-    put_u64(out, branches.len() as u64);
     put_branches(out, branches);
 }

@@ -33,8 +33,9 @@ never x f r e g = absurd (cc)
 nothing_at : (at : Place) (q : Progress) (w : List ℕ) → is_done at ≡ true → step_at at q w ≡ Err reason.NotWord
 nothing_at place.Images q w whole = refl
 nothing_at place.Version q w whole = absurd (false≢true whole)
-nothing_at place.Harts q w whole = absurd (false≢true whole)
-nothing_at place.Layout q w whole = absurd (false≢true whole)
+nothing_at (place.Harts v) q w whole = absurd (false≢true whole)
+nothing_at (place.Layout v) q w whole = absurd (false≢true whole)
+nothing_at place.Branch q w whole = absurd (false≢true whole)
 nothing_at place.FirstTask q w whole = absurd (false≢true whole)
 nothing_at place.Tasks q w whole = absurd (false≢true whole)
 nothing_at place.Irqs q w whole = absurd (false≢true whole)

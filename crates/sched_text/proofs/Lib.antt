@@ -8,3 +8,6 @@ pub mod ImageLaws
 pub mod BreakLaws
 pub mod WholeLaws
 pub mod OneLaws
+pub mod FrontLaws
+pub mod JoinLaws
+pub mod FollowLaws

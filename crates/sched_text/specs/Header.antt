@@ -1,9 +1,9 @@
 -- The lines up to `images`, one by one.
 use Rattle.std.specs.Prelude.{◌≡◌, ℕ, zero, suc, ◌+◌, ◌<◌, ◌≤◌, if◌then◌else◌, nat_lt, Bool, true, false, List, [], ◌∷◌, ◌++◌, length, Option, Some, None, Result, Ok, Err, codes, ⊤}
 use Rattle.std.specs.List.{All}
-use Rattle.perf_sample.specs.Layout.{IsLayout}
+use Rattle.perf_sample.specs.Layout.{IsLayout, IsBranchWord}
 use Rattle.sched_text.specs.Lines.{LineCut, Line, Long, Open, line_at}
-use Rattle.sched_text.specs.Rows.{then_with, has_form, version_of, harts_of, layout_of, task_of, irq_of, IsTask}
+use Rattle.sched_text.specs.Rows.{then_with, has_form, version_of, harts_of, layout_of, branch_of, task_of, irq_of, IsTask}
 use Rattle.sched_text.specs.Irqs.{irq_refusal, IsIrq, AllFollow}
 use Rattle.sched_text.specs.declared.heading.Place.{Place}
 use Rattle.sched_text.specs.declared.heading.Place.TheVariants as place
@@ -11,23 +11,34 @@ use Rattle.sched_text.specs.declared.heading.Progress.{Progress}
 use Rattle.sched_text.specs.declared.heading.StepFault.{StepFault}
 use Rattle.sched_text.specs.declared.heading.StepFault.TheVariants as fault
 use Rattle.sched_text.specs.declared.rows.IrqWords.{IrqWords}
+use Rattle.sched_text.specs.declared.rows.Version.{Version}
+use Rattle.sched_text.specs.declared.rows.Version.TheVariants as version
 use Rattle.sched_text.specs.declared.schedule.IrqLine.{IrqLine}
 use Rattle.sched_text.specs.declared.faults.Reason.{Reason}
 use Rattle.sched_text.specs.declared.faults.Reason.TheVariants as reason
 use Rattle.sched_text.specs.declared.faults.LineFault.{LineFault}
 
--- before the first line; the number of harts and the layout are overwritten by their lines
+-- before the first line; the number of harts and the layout are overwritten by their lines, and the branch word by its line, if
+-- there is one
 abbrev pub start : Progress
-start = record { place = place.Version; harts = 1; layout = 0x800; tasks = []; irqs = [] }
+start = record { place = place.Version; harts = 1; layout = 0x800; branch = 0; tasks = []; irqs = [] }
 
 abbrev pub version_step : Progress → List ℕ → Result Progress Reason
-version_step p line = then_with (version_of line) (λ _. Ok (record p { place = place.Harts }))
+version_step p line = then_with (version_of line) (λ v. Ok (record p { place = place.Harts v }))
 
-abbrev pub harts_step : Progress → List ℕ → Result Progress Reason
-harts_step p line = then_with (harts_of line) (λ harts. Ok (record p { harts = harts; place = place.Layout }))
+abbrev pub harts_step : Version → Progress → List ℕ → Result Progress Reason
+harts_step v p line = then_with (harts_of line) (λ harts. Ok (record p { harts = harts; place = place.Layout v }))
 
-abbrev pub layout_step : Progress → List ℕ → Result Progress Reason
-layout_step p line = then_with (layout_of line) (λ bits. Ok (record p { layout = bits; place = place.FirstTask }))
+-- version 1 has no branch line
+abbrev pub after_layout : Version → Place
+after_layout version.One = place.FirstTask
+after_layout version.Two = place.Branch
+
+abbrev pub layout_step : Version → Progress → List ℕ → Result Progress Reason
+layout_step v p line = then_with (layout_of line) (λ bits. Ok (record p { layout = bits; place = after_layout v }))
+
+abbrev pub branch_step : Progress → List ℕ → Result Progress Reason
+branch_step p line = then_with (branch_of line) (λ bits. Ok (record p { branch = bits; place = place.FirstTask }))
 
 abbrev pub task_step : Progress → List ℕ → Result Progress Reason
 task_step p line = then_with (task_of line) (λ task.
@@ -59,8 +70,9 @@ after_task_step p line = if has_form line (codes "task") 7 then task_step p line
 -- one more line
 abbrev pub step_at : Place → Progress → List ℕ → Result Progress Reason
 step_at place.Version p line = version_step p line
-step_at place.Harts p line = harts_step p line
-step_at place.Layout p line = layout_step p line
+step_at (place.Harts v) p line = harts_step v p line
+step_at (place.Layout v) p line = layout_step v p line
+step_at place.Branch p line = branch_step p line
 step_at place.FirstTask p line = task_step p line
 step_at place.Tasks p line = after_task_step p line
 step_at place.Irqs p line = after_irq_step p line
@@ -93,6 +105,7 @@ pub record Sound (p : Progress) : Type 0 where
   pub one_hart : 1 ≤ p.harts
   pub harts : p.harts ≤ 16
   pub layout : IsLayout p.layout
+  pub branch : IsBranchWord p.branch
   pub few : length p.tasks ≤ 64
   pub tasks : All IsTask p.tasks
   pub irqs : All (IsIrq (length p.tasks)) p.irqs
@@ -100,15 +113,16 @@ pub record Sound (p : Progress) : Type 0 where
   pub some : has_tasks p.place ≡ true → 0 < length p.tasks
   pub early : has_irqs p.place ≡ false → p.irqs ≡ []
 
--- how many lines have been read
+-- how many lines have been read at most: in version 1 there is one less from the first task line on
 abbrev pub lines_before : Place → ℕ
 lines_before place.Version = 0
-lines_before place.Harts = 1
-lines_before place.Layout = 2
-lines_before place.FirstTask = 3
-lines_before place.Tasks = 3
-lines_before place.Irqs = 3
-lines_before place.Images = 4
+lines_before (place.Harts v) = 1
+lines_before (place.Layout v) = 2
+lines_before place.Branch = 3
+lines_before place.FirstTask = 4
+lines_before place.Tasks = 4
+lines_before place.Irqs = 4
+lines_before place.Images = 5
 
 abbrev pub lines_of : Progress → ℕ
 lines_of p = lines_before p.place + length p.tasks + length p.irqs

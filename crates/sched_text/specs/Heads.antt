@@ -5,7 +5,7 @@ use Rattle.sched_text.specs.Lines.{Open, line_at}
 use Rattle.sched_text.specs.Header.{header_cut, after, is_done}
 use Rattle.sched_text.specs.Rows.{IsTask}
 use Rattle.sched_text.specs.Irqs.{IsIrq, AllFollow}
-use Rattle.perf_sample.specs.Layout.{IsLayout}
+use Rattle.perf_sample.specs.Layout.{IsLayout, IsBranchWord}
 use Rattle.std.specs.List.{All}
 use Rattle.sched_text.specs.declared.faults.LineFault.{LineFault}
 use Rattle.sched_text.specs.declared.heading.Place.TheVariants as place
@@ -23,10 +23,10 @@ OneLine line old new text text' hand (Err fault.Memory) = ⊤
 
 -- the header, once `images` was read
 abbrev pub done : Header → Progress
-done h = record { place = place.Images; harts = h.harts; layout = h.layout; tasks = h.tasks; irqs = h.irqs }
+done h = record { place = place.Images; harts = h.harts; layout = h.layout; branch = h.branch; tasks = h.tasks; irqs = h.irqs }
 
 abbrev pub header_of : Progress → Header
-header_of p = record { harts = p.harts; layout = p.layout; tasks = p.tasks; irqs = p.irqs }
+header_of p = record { harts = p.harts; layout = p.layout; branch = p.branch; tasks = p.tasks; irqs = p.irqs }
 
 -- a header stands at the front of a text: its last line has this number, and this follows it
 pub record HasHeader (text : List ℕ) (lines : ℕ) (p : Progress) (rest : List ℕ) : Type 0 where
@@ -55,6 +55,7 @@ pub record IsHeader (h : Header) : Type 0 where
   pub one_hart : 1 ≤ h.harts
   pub harts : h.harts ≤ 16
   pub layout : IsLayout h.layout
+  pub branch : IsBranchWord h.branch
   pub one_task : 1 ≤ length h.tasks
   pub few : length h.tasks ≤ 64
   pub tasks : All IsTask h.tasks

@@ -11,3 +11,4 @@ pub mod Images
 pub mod Commands
 pub mod Reader
 pub mod Text
+pub mod Following

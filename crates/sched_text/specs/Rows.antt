@@ -3,11 +3,13 @@ use Rattle.std.specs.Prelude.{◌≡◌, ℕ, ◌-◌, ◌%◌, ◌^◌, ◌≤�
 use Rattle.std.specs.Str.{bytes_eq}
 use Rattle.sched_text.specs.Lines.{words, word}
 use Rattle.sched_text.specs.Numbers.{number, kept}
-use Rattle.perf_sample.specs.Layout.{is_layout}
+use Rattle.perf_sample.specs.Layout.{is_layout, is_branch_word}
 use Rattle.sched_text.specs.declared.faults.Reason.{Reason}
 use Rattle.sched_text.specs.declared.faults.Reason.TheVariants as reason
 use Rattle.sched_text.specs.declared.rows.TaskNumbers.{TaskNumbers}
 use Rattle.sched_text.specs.declared.rows.IrqWords.{IrqWords}
+use Rattle.sched_text.specs.declared.rows.Version.{Version}
+use Rattle.sched_text.specs.declared.rows.Version.TheVariants as version
 use Rattle.sched_text.specs.declared.schedule.TaskLine.{TaskLine}
 use Rattle.sched_text.specs.declared.schedule.Command.{Command}
 use Rattle.sched_text.specs.declared.schedule.Command.TheVariants as command
@@ -36,10 +38,10 @@ abbrev pub hexadecimal : List ℕ → ℕ → Result ℕ Reason
 hexadecimal line place = or_not_number (number 16 (word line place))
 
 -- ctr-schedule VERSION
-abbrev pub version_of : List ℕ → Result (Unit {0}) Reason
+abbrev pub version_of : List ℕ → Result Version Reason
 version_of line =
     if has_form line (codes "ctr-schedule") 2 then
-    then_with (decimal line 1) (λ version. if nat_eq version 1 then Ok tt else Err reason.Range)
+    then_with (decimal line 1) (λ n. if nat_eq n 1 then Ok version.One else if nat_eq n 2 then Ok version.Two else Err reason.Range)
     else Err reason.NotWord
 
 -- harts N
@@ -54,6 +56,13 @@ abbrev pub layout_of : List ℕ → Result ℕ Reason
 layout_of line =
     if has_form line (codes "layout") 2 then
     then_with (hexadecimal line 1) (λ bits. if nat_le bits (2 ^ 64 - 1) && is_layout bits then Ok bits else Err reason.Range)
+    else Err reason.NotWord
+
+-- branch HEX
+abbrev pub branch_of : List ℕ → Result ℕ Reason
+branch_of line =
+    if has_form line (codes "branch") 2 then
+    then_with (hexadecimal line 1) (λ bits. if is_branch_word bits then Ok bits else Err reason.Range)
     else Err reason.NotWord
 
 -- the ranges of a task line

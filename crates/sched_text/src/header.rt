@@ -14,6 +14,9 @@ use crate::window::Window;
 use ctr_port::Source;
 use std::alloc::Global;
 
+/// No header has more lines: five, those of 64 tasks, 1,024 irq lines of each, and one.
+pub(crate) const HEADER_LINES: u32 = 65_606;
+
 // One more line of the header, which has this number.
 fn one_line<S: Source>(
     progress: &mut Progress,
@@ -24,7 +27,7 @@ fn one_line<S: Source>(
     requires sound { Sound progress.old }
     requires irqs { length progress.old.irqs ≤ 65537 }
     ensures line { OneLine line progress.old progress.new (text_of window.old (S.left source.old)) (text_of window.new (S.left source.new)) window.new result }
-    ensures count { IfOk result (λ _. lines_of progress.new ≡ lines_of progress.old + 1) }
+    ensures count { IfOk result (λ _. lines_of progress.old < lines_of progress.new) }
     ensures few { IfOk result (λ _. length progress.new.irqs ≤ 65537) }
     ensures sound { IfOk result (λ _. Sound progress.new) }
     ensures hand { length window.new ≤ 4096 }
@@ -78,7 +81,7 @@ pub(crate) fn read_header<S: Source>(
     requires hand { length window.old ≤ 4096 }
     ensures heads { Heads line.new (text_of window.old (S.left source.old)) (text_of window.new (S.left source.new)) window.new result }
     ensures sound { IfOk result IsHeader }
-    ensures most { line.new ≤ 65605 }
+    ensures most { line.new ≤ HEADER_LINES }
     ensures hand { length window.new ≤ 4096 }
     ensures later { S.faults source.old ≤ S.faults source.new }
     ensures cause { result ≡ Err ScheduleFault.ReadFault → Rose (S.faults source.old) (S.faults source.new) }
@@ -94,6 +97,7 @@ pub(crate) fn read_header<S: Source>(
     Ok(Header {
         harts: progress.harts,
         layout: progress.layout,
+        branch: progress.branch,
         tasks: progress.tasks,
         irqs: progress.irqs.into_lines(),
     })

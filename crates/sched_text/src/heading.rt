@@ -1,13 +1,14 @@
 //! The lines up to `images`, one by one.
 
 ghost use Rattle.std.specs.Prelude.{◌≡◌, ◌+◌, ◌<◌, ◌≤◌, [], length, IfOk};
-ghost use Rattle.sched_text.specs.Header.{step, task_step, irq_step, after_irq_step, after_task_step, Stepped, lines_before, lines_of, Sound, start};
+ghost use Rattle.sched_text.specs.Header.{step, after_layout, task_step, irq_step, after_irq_step, after_task_step, Stepped, lines_before, lines_of, Sound, start};
 
 use crate::faults::Reason;
 use crate::irqs::Irqs;
 use crate::lists::TaskLines;
 use crate::rows::{
-    IMAGES, IRQ, TASK, harts_row, has_form, irq_row, layout_row, task_row, version_row,
+    IMAGES, IRQ, TASK, Version, branch_row, harts_row, has_form, irq_row, layout_row, task_row,
+    version_row,
 };
 use crate::schedule::IrqLine;
 use ctr_port::NoMemory;
@@ -17,8 +18,9 @@ use std::alloc::Global;
 #[derive(Clone, Copy, PartialEq, Eq)]
 pub(crate) enum Place {
     Version,
-    Harts,
-    Layout,
+    Harts(Version),
+    Layout(Version),
+    Branch,
     FirstTask,
     /// A further task line, an irq line or `images`.
     Tasks,
@@ -34,6 +36,7 @@ pub(crate) struct Progress {
     pub(crate) place: Place,
     pub(crate) harts: u8,
     pub(crate) layout: u64,
+    pub(crate) branch: u64,
     pub(crate) tasks: TaskLines,
     pub(crate) irqs: Irqs,
 }
@@ -67,6 +70,16 @@ impl From<NoMemory> for StepFault {
     }
 }
 
+// Which line follows the layout: version 1 has no branch line.
+fn after_layout(version: Version) -> Place
+    ensures { result ≡ after_layout version }
+{
+    match version {
+        Version::One => Place::FirstTask,
+        Version::Two => Place::Branch,
+    }
+}
+
 impl Progress {
     /// Before the first line.
     pub(crate) fn new(alloc: Global) -> Self
@@ -77,6 +90,7 @@ impl Progress {
             place: Place::Version,
             harts: 1,
             layout: 0x800,
+            branch: 0,
             tasks: TaskLines::new(alloc),
             irqs: Irqs::new(alloc),
         }
@@ -131,7 +145,7 @@ impl Progress {
         requires some { 0 < length self.old.tasks }
         requires irqs { length self.old.irqs ≤ 65537 }
         ensures step { Stepped (after_irq_step self.old line.now) self.new result }
-        ensures count { IfOk result (λ _. length self.new.irqs + lines_before self.new.place ≡ length self.old.irqs + 4) }
+        ensures count { IfOk result (λ _. length self.new.irqs + lines_before self.new.place ≡ length self.old.irqs + 5) }
         ensures tasks { IfOk result (λ _. self.new.tasks ≡ self.old.tasks) }
         ensures few { IfOk result (λ _. length self.new.irqs ≤ 65537) }
         ensures sound { IfOk result (λ _. Sound self.new) }
@@ -153,7 +167,7 @@ impl Progress {
         requires early { self.old.irqs ≡ [] }
         requires irqs { length self.old.irqs ≤ 65537 }
         ensures step { Stepped (after_task_step self.old line.now) self.new result }
-        ensures count { IfOk result (λ _. length self.new.tasks + length self.new.irqs + lines_before self.new.place ≡ length self.old.tasks + length self.old.irqs + 4) }
+        ensures count { IfOk result (λ _. length self.new.tasks + length self.new.irqs + lines_before self.new.place ≡ length self.old.tasks + length self.old.irqs + 5) }
         ensures few { IfOk result (λ _. length self.new.irqs ≤ 65537) }
         ensures sound { IfOk result (λ _. Sound self.new) }
     {
@@ -168,23 +182,28 @@ impl Progress {
         requires sound { Sound self.old }
         requires irqs { length self.old.irqs ≤ 65537 }
         ensures step { Stepped (step self.old line.now) self.new result }
-        ensures count { IfOk result (λ _. lines_of self.new ≡ lines_of self.old + 1) }
+        ensures count { IfOk result (λ _. lines_of self.old < lines_of self.new) }
         ensures few { IfOk result (λ _. length self.new.irqs ≤ 65537) }
         ensures sound { IfOk result (λ _. Sound self.new) }
     {
         match self.place {
             Place::Version => {
-                version_row(line)?;
-                self.place = Place::Harts;
+                let version = version_row(line)?;
+                self.place = Place::Harts(version);
                 Ok(())
             }
-            Place::Harts => {
+            Place::Harts(version) => {
                 self.harts = harts_row(line)?;
-                self.place = Place::Layout;
+                self.place = Place::Layout(version);
                 Ok(())
             }
-            Place::Layout => {
+            Place::Layout(version) => {
                 self.layout = layout_row(line)?;
+                self.place = after_layout(version);
+                Ok(())
+            }
+            Place::Branch => {
+                self.branch = branch_row(line)?;
                 self.place = Place::FirstTask;
                 Ok(())
             }

@@ -1,23 +1,14 @@
-//! Laws of the schedule text, as functions without a body: whoever calls one has its clause.
+//! Laws of whole texts, as the clauses of a function without a body: whoever calls it has them.
 
-ghost use Rattle.std.specs.Prelude.{◌≡◌};
+ghost use Rattle.std.specs.Prelude.{◌≡◌, ℕ, List};
 ghost use Rattle.sched_text.specs.Text.{TextBreak, WholeOrBroken, OneOfEach};
+ghost use Rattle.sched_text.specs.declared.faults.LineFault.{LineFault};
 
-use crate::faults::LineFault;
-
-/// A text has one break at most: one line that is refused, for one reason.
-pub fn one_break(text: &[u8], first: LineFault, second: LineFault)
-    requires first { TextBreak text.now first }
-    requires second { TextBreak text.now second }
-    ensures { first ≡ second }
-{}
-
-/// A text is whole or has a break, and not both. The commands of a whole text, up to `end`, are determined by it.
-pub fn whole_or_broken(text: &[u8])
-    ensures { WholeOrBroken text.now }
-{}
-
-/// A text has one header at most, one image of each task, and one list of commands before its break: those that are whole.
-pub fn one_of_each(text: &[u8])
-    ensures { OneOfEach text.now }
+/// A text breaks at one line and by one reason; it is whole or broken, and not both, and a whole text has one list of commands;
+/// and what is whole in it before a break, or before the end, is one of each: a header, an image of each task, and a list of
+/// commands.
+pub fn text_laws()
+    ensures one_break { (text : List ℕ) (first second : LineFault) → TextBreak text first → TextBreak text second → first ≡ second }
+    ensures whole_or_broken { (text : List ℕ) → WholeOrBroken text }
+    ensures one_of_each { (text : List ℕ) → OneOfEach text }
 {}

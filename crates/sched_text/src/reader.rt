@@ -34,12 +34,13 @@ pub struct ScheduleReader {
 impl Model for ScheduleReader {
     ghost use Rattle.std.specs.Prelude.{◌≡◌, ◌≤◌, ◌+◌, None, false, length};
     ghost use Rattle.sched_text.specs.Reader.{Reader};
+    ghost use Rattle.sched_text.specs.declared.header.TheConstants.{HEADER_LINES};
 
     ghost Value = { Reader };
 
     ghost view = { λ r. record { refused = r.refused; line = r.line; commands = r.commands; ended = r.ended; hand = r.window } };
 
-    ghost invariant = { λ r. (length r.window ≤ 4096) × (r.commands ≤ 1048576) × (r.line ≤ 65607 + r.commands) × (r.refused ≡ None → r.ended ≡ false → r.line ≤ 65606 + r.commands) };
+    ghost invariant = { λ r. (length r.window ≤ 4096) × (r.commands ≤ 1048576) × (r.line ≤ HEADER_LINES + 1 + r.commands) × (r.refused ≡ None → r.ended ≡ false → r.line ≤ HEADER_LINES + r.commands) };
 }
 
 impl ScheduleReader {
@@ -167,7 +168,7 @@ fn narrowed(fault: ScheduleFault) -> CommandFault
 }
 
 // A refusal of `command` among those of the whole schedule.
-fn widen(fault: CommandFault) -> ScheduleFault
+pub(crate) fn widen(fault: CommandFault) -> ScheduleFault
     ensures { result ≡ widened fault }
 {
     match fault {

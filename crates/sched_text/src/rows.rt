@@ -2,14 +2,14 @@
 
 ghost use Rattle.std.specs.Prelude.{◌≡◌, ◌<◌, ◌≤◌, length, drop, true, IfOk};
 ghost use Rattle.sched_text.specs.Lines.{words};
-ghost use Rattle.sched_text.specs.Rows.{has_form, decimal, number_of, hexadecimal, version_of, harts_of, layout_of, task_numbers, task_of, IsTask, irq_of, is_cause, run_of, IsCommand, command_of};
-ghost use Rattle.perf_sample.specs.Layout.{IsLayout};
+ghost use Rattle.sched_text.specs.Rows.{has_form, decimal, number_of, hexadecimal, version_of, harts_of, layout_of, branch_of, task_numbers, task_of, IsTask, irq_of, is_cause, run_of, IsCommand, command_of};
+ghost use Rattle.perf_sample.specs.Layout.{IsLayout, IsBranchWord};
 ghost use Rattle.sched_text.specs.Numbers.{kept};
 
 use crate::faults::Reason;
 use crate::schedule::{Command, TaskLine};
 use crate::words::{number, split_word, word_count};
-use perf_sample::Layout;
+use perf_sample::{HW_INDEX, Layout};
 
 /// The first words of the lines.
 pub(crate) const VERSION: &[u8] = b"ctr-schedule";
@@ -17,6 +17,8 @@ pub(crate) const VERSION: &[u8] = b"ctr-schedule";
 pub(crate) const HARTS: &[u8] = b"harts";
 
 pub(crate) const LAYOUT: &[u8] = b"layout";
+
+const BRANCH: &[u8] = b"branch";
 
 pub(crate) const TASK: &[u8] = b"task";
 
@@ -60,18 +62,30 @@ fn hexadecimal(line: &[u8]) -> Result<(u128, &[u8]), Reason>
     Ok((number, rest))
 }
 
+/// The version of a schedule.
+#[derive(Clone, Copy, PartialEq, Eq)]
+pub(crate) enum Version {
+    One,
+    /// With a branch line.
+    Two,
+}
+
 /// The line `ctr-schedule VERSION`.
-pub(crate) fn version_row(line: &[u8]) -> Result<(), Reason>
+pub(crate) fn version_row(line: &[u8]) -> Result<Version, Reason>
     ensures { result ≡ version_of line.now }
 {
     if !has_form(line, VERSION, 2) {
         return Err(Reason::NotWord);
     }
     let (_, rest) = split_word(line);
-    if decimal(rest)?.0 != 1 {
-        return Err(Reason::Range);
+    let (number, _) = decimal(rest)?;
+    if number == 1 {
+        return Ok(Version::One);
     }
-    Ok(())
+    if number == 2 {
+        return Ok(Version::Two);
+    }
+    Err(Reason::Range)
 }
 
 /// The line `harts N`.
@@ -101,6 +115,22 @@ pub(crate) fn layout_row(line: &[u8]) -> Result<u64, Reason>
     let (_, rest) = split_word(line);
     let (bits, _) = hexadecimal(rest)?;
     if bits > u64::MAX as u128 || Layout::of(bits as u64).is_none() {
+        return Err(Reason::Range);
+    }
+    Ok(bits as u64)
+}
+
+/// The line `branch HEX`.
+pub(crate) fn branch_row(line: &[u8]) -> Result<u64, Reason>
+    ensures branch { result ≡ branch_of line.now }
+    ensures range { IfOk result IsBranchWord }
+{
+    if !has_form(line, BRANCH, 2) {
+        return Err(Reason::NotWord);
+    }
+    let (_, rest) = split_word(line);
+    let (bits, _) = hexadecimal(rest)?;
+    if bits != 0 && bits != HW_INDEX as u128 {
         return Err(Reason::Range);
     }
     Ok(bits as u64)

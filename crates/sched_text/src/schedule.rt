@@ -37,6 +37,8 @@ pub struct Header {
     pub harts: u8,
     /// The layout of the samples, which `perf_sample::Layout::of` accepts.
     pub layout: u64,
+    /// The branch word of the samples, which `perf_sample::Layout::with_branch` accepts; 0 in version 1.
+    pub branch: u64,
     /// The task lines: 1 to 64.
     pub tasks: TaskLines,
     /// The irq lines, at most 1,024 of each task, and those of a task in the order of their steps and causes.

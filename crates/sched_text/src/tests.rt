@@ -18,6 +18,9 @@ mod pieces;
 // Three lines, in front of the task lines.
 const START: &str = "ctr-schedule 1\nharts 1\nlayout 803\n";
 
+// Four lines of version 2.
+const START_2: &str = "ctr-schedule 2\nharts 1\nlayout 803\nbranch 20000\n";
+
 // A task with an image of four bytes.
 const TASK: &str = "task 4 8 0 4 0 0\n";
 

@@ -1,4 +1,4 @@
-use super::{IMAGE, START, TASK, joined, read_all};
+use super::{COMMANDS, IMAGE, START, TASK, joined, read_all};
 use crate::{Command, Header, IrqLine, ScheduleReader, TaskLine};
 use ctr_port::MemSource;
 use std::alloc::Global;
@@ -39,6 +39,51 @@ fn a_version_may_have_leading_zeros(rt: HostRuntime) -> Result<(), Fail> {
         let parts = [line, "harts 1\nlayout 803\n", TASK, "images\n"];
         let header = header_of(rt.alloc(), &parts)?;
         assert_eq!(rt; header.tasks.items().len(), 1, "{line}");
+    }
+    Ok(())
+}
+
+#[test]
+fn the_branch_word_is_that_of_the_branch_line(rt: HostRuntime) -> Result<(), Fail> {
+    for (line, branch) in [
+        ("branch 0\n", 0),
+        ("branch 00\n", 0),
+        ("branch 20000\n", 0x20000),
+        ("branch 020000\n", 0x20000),
+        ("branch 000000000000000000020000\n", 0x20000),
+    ] {
+        let start = "ctr-schedule 2\nharts 2\nlayout 883\n";
+        let header = header_of(rt.alloc(), &[start, line, TASK, IMAGE])?;
+        assert_eq!(rt; header.branch, branch, "{line}");
+        assert_eq!(rt; header.layout, 0x883, "{line}");
+        assert_eq!(rt; header.harts, 2, "{line}");
+        assert_eq!(rt; header.tasks.items().len(), 1, "{line}");
+    }
+    // Version 1 has no branch line.
+    let header = header_of(rt.alloc(), &[START, TASK, IMAGE])?;
+    assert_eq!(rt; header.branch, 0);
+    Ok(())
+}
+
+#[test]
+fn a_schedule_of_version_2_is_read_as_one_of_version_1(rt: HostRuntime) -> Result<(), Fail> {
+    let first = joined(rt.alloc(), &[START, TASK, IMAGE, COMMANDS])?;
+    let branch = "ctr-schedule 2\nharts 1\nlayout 803\nbranch 0\n";
+    let second = joined(rt.alloc(), &[branch, TASK, IMAGE, COMMANDS])?;
+    for text in [first, second] {
+        let mut source = MemSource::new(rt.alloc(), &text, &[], &[])?;
+        let answers = read_all(rt.alloc(), &mut ScheduleReader::new(), &mut source)?;
+        assert_eq!(rt; answers.fault, None);
+        assert_eq!(rt; answers.images.len(), 1);
+        let run = Command::Run {
+            hart: 0,
+            task: 0,
+            steps: 1,
+        };
+        assert_eq!(rt;
+            answers.commands.as_slice(),
+            [run, Command::Sample { task: 0 }].as_slice()
+        );
     }
     Ok(())
 }

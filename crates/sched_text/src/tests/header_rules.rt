@@ -1,4 +1,4 @@
-use super::{START, TASK, joined, refuses_each, refuses_each_at_once, repeat};
+use super::{START, START_2, TASK, joined, refuses_each, refuses_each_at_once, repeat};
 use crate::Reason;
 use std::alloc::Global;
 use std::test::*;
@@ -21,7 +21,11 @@ const VERSIONS: &[(&str, Reason)] = &[
     ("ctr-schedule 1\r\n", Reason::NotNumber),
     ("ctr-schedule 1a\n", Reason::NotNumber),
     ("ctr-schedule 0\n", Reason::Range),
-    ("ctr-schedule 2\n", Reason::Range),
+    ("ctr-schedule 3\n", Reason::Range),
+    ("ctr-schedule 12\n", Reason::Range),
+    ("ctr-schedule 21\n", Reason::Range),
+    ("ctr-schedule 4294967298\n", Reason::Range), // 2^32 + 2
+    ("ctr-schedule 2 2\n", Reason::NotWord),
     ("ctr-schedule 4294967297\n", Reason::Range), // 2^32 + 1
     ("ctr-schedule 18446744073709551617\n", Reason::Range), // 2^64 + 1
 ];
@@ -78,6 +82,35 @@ const LAYOUTS: &[(&str, Reason)] = &[
     ("layout 10000000000000803\n", Reason::Range), // 2^64 + 803
 ];
 
+// In place of the fourth line of version 2.
+const BRANCHES: &[(&str, Reason)] = &[
+    ("", Reason::Cut),
+    ("branch 20000", Reason::Cut),
+    ("branch\n", Reason::NotWord),
+    ("branch 0 0\n", Reason::NotWord),
+    ("branch 0 \n", Reason::NotWord), // three words
+    ("branch  0\n", Reason::NotWord),
+    ("Branch 0\n", Reason::NotWord),
+    ("layout 803\n", Reason::NotWord),
+    ("task 4 8 0 4 0 0\n", Reason::NotWord), // no branch line
+    ("images\n", Reason::NotWord),
+    ("branch \n", Reason::NotNumber), // an empty word
+    ("branch 0x20000\n", Reason::NotNumber),
+    ("branch +0\n", Reason::NotNumber),
+    ("branch 2000g\n", Reason::NotNumber),
+    ("branch 1\n", Reason::Range), // bits of branch_sample_type that no layout has
+    ("branch 8\n", Reason::Range),
+    ("branch 2000\n", Reason::Range),
+    ("branch 20001\n", Reason::Range),
+    ("branch 40000\n", Reason::Range),
+    ("branch 60000\n", Reason::Range),
+    ("branch 200000\n", Reason::Range),
+    ("branch 100020000\n", Reason::Range), // 2^32 + 20000
+    ("branch 8000000000020000\n", Reason::Range),
+    ("branch 10000000000000000\n", Reason::Range), // 2^64
+    ("branch 10000000000020000\n", Reason::Range),
+];
+
 // In place of any task line.
 const TASKS: &[(&str, Reason)] = &[
     ("", Reason::Cut),
@@ -88,6 +121,7 @@ const TASKS: &[(&str, Reason)] = &[
     ("task\n", Reason::NotWord),
     ("tasks 4 8 0 4 0 0\n", Reason::NotWord),
     ("layout 803\n", Reason::NotWord),
+    ("branch 0\n", Reason::NotWord),
     ("run 0 0 1\n", Reason::NotWord),
     ("end\n", Reason::NotWord),
     ("task x 8 0 4 0 0\n", Reason::NotNumber),
@@ -136,6 +170,7 @@ const IRQS: &[(&str, Reason)] = &[
     ("irq  0 2000 3\n", Reason::NotWord),
     ("IRQ 0 2000 3\n", Reason::NotWord),
     ("task 4 8 0 4 0\n", Reason::NotWord),
+    ("branch 0\n", Reason::NotWord),
     ("images 0\n", Reason::NotWord),
     ("images \n", Reason::NotWord),
     ("image\n", Reason::NotWord),
@@ -191,6 +226,37 @@ fn each_rule_of_the_first_three_lines_refuses_its_line(rt: HostRuntime) -> Resul
     refuses_each(&rt, rt.alloc(), b"", 1, 0, VERSIONS)?;
     refuses_each(&rt, rt.alloc(), b"ctr-schedule 1\n", 2, 0, HARTS)?;
     refuses_each(&rt, rt.alloc(), b"ctr-schedule 1\nharts 1\n", 3, 0, LAYOUTS)
+}
+
+#[test]
+fn each_rule_of_the_first_four_lines_of_version_2_refuses_its_line(
+    rt: HostRuntime,
+) -> Result<(), Fail> {
+    refuses_each(&rt, rt.alloc(), b"ctr-schedule 2\n", 2, 0, HARTS)?;
+    refuses_each(&rt, rt.alloc(), b"ctr-schedule 2\nharts 1\n", 3, 0, LAYOUTS)?;
+    let front = b"ctr-schedule 2\nharts 1\nlayout 803\n";
+    refuses_each(&rt, rt.alloc(), front, 4, 0, BRANCHES)
+}
+
+#[test]
+fn each_rule_refuses_its_line_behind_a_branch_line(rt: HostRuntime) -> Result<(), Fail> {
+    let mut front = joined(rt.alloc(), &[START_2])?;
+    refuses_each_at_once(&rt, rt.alloc(), &front, 5, 0, TASKS)?;
+    // One branch line, and it stands before the task lines.
+    let more = [
+        ("branch 20000\n", Reason::NotWord),
+        ("images\n", Reason::NotWord),
+        ("irq 0 5 3\n", Reason::NotWord),
+    ];
+    refuses_each(&rt, rt.alloc(), &front, 5, 0, &more)?;
+    front.extend_from_slice(TASK.as_bytes())?;
+    refuses_each_at_once(&rt, rt.alloc(), &front, 6, 0, IRQS)?;
+    front.extend_from_slice(b"irq 0 5 5\n")?;
+    refuses_each(&rt, rt.alloc(), &front, 7, 0, OUT_OF_ORDER)?;
+    let mut full = joined(rt.alloc(), &[START_2])?;
+    repeat(&mut full, TASK, 64)?;
+    let too_many = ("task 4 8 0 4 0 0\n", Reason::TooMany);
+    refuses_each_at_once(&rt, rt.alloc(), &full, 69, 0, &[too_many])
 }
 
 #[test]

@@ -1,15 +1,14 @@
-use Rattle.std.proofs.Common.{◌≡◌, ◌≤◌}
+use Rattle.std.proofs.Common.{◌≡◌, ◌≤◌, take}
 use Rattle.std.specs.Io.KnownBytes.{Consumes}
-use Rattle.perf_sample.specs.Layout.{Fits}
-use Rattle.perf_sample.specs.Breaks.{rows}
+use Rattle.perf_sample.specs.Layout.{before_nr, fields_in, Fits}
+use Rattle.perf_sample.specs.Spelling.{fields_bytes}
 use Rattle.perf_sample.specs.Range.{IsSample}
-use Rattle.perf_sample.proofs.RowLaws.{front}
 use Rattle.perf_sample.proofs.rows.read_rows.Given as goal
 
-abbrev pub invariant-loop-bit : goal.invariant-loop-bit
-invariant-loop-bit g l = record {
-  items : l.bit-items ≡ rows;
-  took : Consumes (g.S.Source.left l.fn.source) (g.S.Source.left l.source) (front l.layout l.sample l.bit-index);
+abbrev pub invariant-loop-place : goal.invariant-loop-place
+invariant-loop-place g l = record {
+  items : l.place-items ≡ before_nr;
+  took : Consumes (g.S.Source.left l.fn.source) (g.S.Source.left l.source) (fields_bytes l.sample (fields_in l.layout (take l.place-index before_nr)));
   fits : Fits l.layout l.sample;
   misc : l.sample.misc ≡ l.fn.sample.misc;
   branches : l.sample.branches ≡ l.fn.sample.branches;

@@ -6,11 +6,11 @@ use Rattle.sched_text.proofs.header.read_header.Given as goal
 abbrev pub invariant-loop-line : goal.invariant-loop-line
 invariant-loop-line g l =
     Of (text_of l.fn.window (g.S.Source.left l.fn.source)) (text_of l.window (g.S.Source.left l.source)) (λ t t'. after l.line t ≡ Ok (l.progress, t'))
-    × (l.line ≡ lines_of l.progress)
+    × (l.line ≤ lines_of l.progress)
     × Sound l.progress
     × (length l.progress.irqs ≤ 65537)
     × (length l.window ≤ 4096)
     × (g.S.Source.faults l.fn.source ≤ g.S.Source.faults l.source)
 
 abbrev pub decreases-loop-line : goal.decreases-loop-line
-decreases-loop-line g l = 65605 - lines_of l.progress
+decreases-loop-line g l = 65606 - lines_of l.progress
