@@ -4,3 +4,4 @@ mod Zeros
 mod StepLemmas
 mod TaskLemmas
 mod FactLemmas
+mod EndingLemmas

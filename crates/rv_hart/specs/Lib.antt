@@ -7,4 +7,5 @@ pub mod Hart
 pub mod Task
 pub mod Lone
 pub mod StepLaws
+pub mod Ending
 pub mod Facts

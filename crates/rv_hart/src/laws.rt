@@ -2,6 +2,7 @@ ghost use Rattle.std.specs.Prelude.{◌≡◌, ℕ, ◌^◌, ◌<◌, ◌%◌, L
 ghost use Rattle.std.specs.List.{All};
 ghost use Rattle.rv_hart.specs.Step.{next, events_of};
 ghost use Rattle.rv_hart.specs.Facts.{IsCore, NextKeeps, StepsKeep, LoneRunKeeps, HistoryKeeps, HistoryReplays};
+ghost use Rattle.rv_hart.specs.Ending.{EndingsByMode, MonitorClearsAsSctrclr, TrapsAndReturnsWriteNothing};
 ghost use Rattle.rv_hart.specs.StepLaws.{ExceptionsWriteNothing, MemoryKeepsItsSize, NoStepChangesX0, AtMostOneEvent};
 ghost use Rattle.guest_modes.specs.Words.{IsWithin};
 ghost use Rattle.indirect_regs.specs.Unit.{IsUnit};
@@ -17,6 +18,15 @@ pub fn step_laws()
     ensures size { MemoryKeepsItsSize }
     ensures zero { NoStepChangesX0 }
     ensures events { AtMostOneEvent }
+
+    // A step that takes a trap, an interrupt among them, or returns from one leaves memory and registers as they were.
+    ensures traps { TrapsAndReturnsWriteNothing }
+
+    // How ECALL, EBREAK, MRET, SRET, SCTRCLR, WFI and the fences end, mode by mode.
+    ensures endings { EndingsByMode }
+
+    // A monitor's clear is SCTRCLR.
+    ensures clear { MonitorClearsAsSctrclr }
 {}
 
 /// Laws of the lone run of a task, of every task and number of steps: a proof and no work.

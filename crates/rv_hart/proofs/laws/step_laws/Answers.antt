@@ -1,4 +1,5 @@
 use Rattle.rv_hart.proofs.StepLemmas.{exceptions_write_nothing, memory_keeps_its_size, no_step_changes_x0, at_most_one_event}
+use Rattle.rv_hart.proofs.EndingLemmas.{traps_and_returns_write_nothing, endings_by_mode, monitor_clears_as_sctrclr}
 use Rattle.rv_hart.proofs.laws.step_laws.Goals as goal
 
 pub returns-clause-exceptions : goal.returns-clause-exceptions
@@ -12,3 +13,12 @@ returns-clause-zero c = no_step_changes_x0
 
 pub returns-clause-events : goal.returns-clause-events
 returns-clause-events c = at_most_one_event
+
+pub returns-clause-traps : goal.returns-clause-traps
+returns-clause-traps c = traps_and_returns_write_nothing
+
+pub returns-clause-endings : goal.returns-clause-endings
+returns-clause-endings c = endings_by_mode
+
+pub returns-clause-clear : goal.returns-clause-clear
+returns-clause-clear c = monitor_clears_as_sctrclr
