@@ -1,13 +1,11 @@
 -- The pointer of a history, counted by additions alone.
-use Rattle.std.proofs.Common.{◌≡◌, ℕ, ◌+◌, ◌-◌, ◌*◌, ◌%◌, ◌<◌, List, count_by, sym, ◌∙◌, ap, arith}
+use Rattle.std.proofs.Common.{◌≡◌, ℕ, ◌+◌, ◌-◌, ◌*◌, ◌%◌, ◌<◌, List, count_by, ◌∙◌, ap, arith}
 use Rattle.std.proofs.Math.Nat.{mod-add-mod, add-mul-mod_self_left, mul-add, mul-one, mul_comm}
 use Rattle.std.proofs.lemmas.Nat.{mod_below}
-use Rattle.ctr_csrs.specs.declared.depth.Depth.TheVariants.{D16}
 use Rattle.ctr_csrs.specs.Depths.{entries_of}
 use Rattle.ctr_csrs.specs.RegisterLaws.{least_entries}
 use Rattle.ctr_buffer.specs.declared.event.Event.{Event}
 use Rattle.ctr_buffer.specs.History.{IsCounted, HasPointer, counted, deep_of, is_push, is_pop, pointer_of, set_from, since}
-use Rattle.ctr_buffer.specs.HistoryLaws.{below_size}
 
 -- a pop that counts as one less than the size, and itself, are the size
 pub with_itself : (size place pushes pops : ℕ) → 0 < size

@@ -1,5 +1,5 @@
 -- The words of an entry read back.
-use Rattle.std.proofs.Common.{ℕ, ◌≡◌, ◌+◌, ◌*◌, ◌/◌, ◌%◌, Bool, true, false, nat_eq, refl, ap, arith, ◌∙◌}
+use Rattle.std.proofs.Common.{ℕ, ◌≡◌, ◌+◌, ◌%◌, Bool, true, false, nat_eq, refl, ap, arith}
 use Rattle.ctr_buffer.specs.Entry.{Entry, address_in, flag_in, with_flag}
 use Rattle.ctr_buffer.specs.EntryLaws.{ReadsBack, KeepsAllButV}
 

@@ -1,5 +1,5 @@
 -- An entry of the record buffer as numbers (RISC-V Control Transfer Records 1.0, registers ctrsource, ctrtarget and ctrdata).
-use Rattle.std.specs.Prelude.{ℕ, ◌+◌, ◌*◌, ◌/◌, ◌%◌, ◌^◌, ◌≡◌, ◌<◌, Bool, true, false, List, filter, nat_eq}
+use Rattle.std.specs.Prelude.{ℕ, ◌+◌, ◌*◌, ◌/◌, ◌%◌, ◌^◌, ◌<◌, Bool, true, false, List, filter, nat_eq}
 use Rattle.ctr_buffer.specs.declared.slot.Part.{Part}
 use Rattle.ctr_buffer.specs.declared.slot.Part.TheVariants.{Source, Target, Kind}
 

@@ -1,5 +1,5 @@
 -- Laws of the words of an entry.
-use Rattle.std.specs.Prelude.{◌≡◌, ℕ, ◌%◌, Bool, true, false}
+use Rattle.std.specs.Prelude.{◌≡◌, ℕ, Bool, true, false}
 use Rattle.ctr_buffer.specs.Entry.{Entry, recorded_entry, unlinked, is_valid, is_mispredicted, source_address, target_address}
 
 -- what is read of the entry of a transfer is what was recorded: V, MISP, both addresses and the type

@@ -1,5 +1,5 @@
 -- What a record buffer keeps to by every event.
-use Rattle.std.proofs.Common.{ℕ, zero, suc, ◌≡◌, ◌+◌, ◌-◌, ◌*◌, ◌/◌, ◌%◌, ◌^◌, ◌<◌, List, [], ◌∷◌, ◌++◌, take, arith, lit<, refl}
+use Rattle.std.proofs.Common.{ℕ, zero, suc, ◌+◌, ◌-◌, ◌%◌, List, [], ◌∷◌, take, arith, lit<}
 use Rattle.std.specs.Prelude.{slice_index_or}
 use Rattle.std.specs.List.{All, range_with_len}
 use Rattle.std.proofs.lemmas.List.Elements.{All-nil, All-cons, All-head, All-tail, All-take, All-append, All-set, All-replicate, All-map}
@@ -9,7 +9,7 @@ use Rattle.ctr_buffer.specs.declared.event.Event.TheVariants.{Push, Swap, Pop, C
 use Rattle.ctr_buffer.specs.declared.slot.Part.{Part}
 use Rattle.ctr_buffer.specs.declared.slot.Part.TheVariants.{Source, Target, Kind}
 use Rattle.ctr_buffer.specs.Entry.{Entry, FitsPart, IsEntry, zero_entry, unlinked, with_part}
-use Rattle.ctr_buffer.specs.Facts.{IsBuffer, IsEvent, BuffersStay}
+use Rattle.ctr_buffer.specs.Facts.{IsEvent, BuffersStay}
 use Rattle.ctr_buffer.specs.History.{after}
 use Rattle.ctr_buffer.specs.HistoryLaws.{stays}
 use Rattle.ctr_buffer.specs.Stack.{Stack, size_of, first_last, entry_at}

@@ -2,7 +2,7 @@
 use Rattle.std.specs.Prelude.{◌≡◌, true}
 use Rattle.std.specs.List.{All}
 use Rattle.ctr_buffer.specs.declared.event.Event.{Event}
-use Rattle.ctr_buffer.specs.declared.event.Event.TheVariants.{Push, Swap, Pop, Clear, SetDepth, Turn, Poke}
+use Rattle.ctr_buffer.specs.declared.event.Event.TheVariants.{Push, Swap, Poke}
 use Rattle.ctr_buffer.specs.Entry.{Entry, FitsPart, IsEntry, is_valid}
 use Rattle.ctr_buffer.specs.History.{after}
 use Rattle.ctr_buffer.specs.Stack.{Stack, IsStack}
