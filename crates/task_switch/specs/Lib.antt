@@ -1,2 +1,2 @@
-pub mod Saved
+pub mod SaveArea
 pub mod Passed

@@ -19,5 +19,5 @@ abbrev pub filled : ℕ → List Entry → UnitState → UnitState
 filled i xs u = record u { select = select_after i u.select; stack = record { depth = u.stack.depth; slots = take i xs ++ drop i u.stack.slots; pointer = u.stack.pointer } }
 
 -- the unit with the select at its last entry
-abbrev pub at_last : UnitState → UnitState
-at_last u = record u { select = 511 + size_of u.stack }
+abbrev pub with_last_select : UnitState → UnitState
+with_last_select u = record u { select = 511 + size_of u.stack }

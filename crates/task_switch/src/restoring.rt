@@ -2,7 +2,7 @@ ghost use Rattle.std.specs.Prelude.{◌≡◌, ◌≤◌, ◌+◌, ◌*◌, ◌^
 ghost use Rattle.ctr_csrs.specs.Depths.{entries_of};
 ghost use Rattle.ctr_csrs.specs.StatusFigure.{pointer_in, frozen_in};
 ghost use Rattle.ctr_buffer.specs.Entry.{zero_entry};
-ghost use Rattle.task_switch.specs.Saved.{held, Whole};
+ghost use Rattle.task_switch.specs.SaveArea.{unit_in, IsWhole};
 ghost use Rattle.task_switch.specs.Passed.{filled};
 
 use crate::entry::write_entry;
@@ -14,8 +14,8 @@ use indirect_regs::{CtrPort, PortReg};
 /// Makes the unit behind a port the one that an area holds, whatever it was, in 6 accesses and 4 for each entry.
 pub fn restore<P: CtrPort>(port: &mut P, area: &SaveArea)
     requires room { P.count port.old ≤ 2 ^ 62 }
-    requires whole { Whole area.now }
-    ensures unit { P.unit port.new ≡ held area.now }
+    requires whole { IsWhole area.now }
+    ensures unit { P.unit port.new ≡ unit_in area.now }
     ensures count { P.count port.new ≡ P.count port.old + (6 + 4 * entries_of area.now.depth) }
     ensures rest { P.same_rest port.old port.new }
 {

@@ -2,7 +2,7 @@ ghost use Rattle.std.specs.Prelude.{◌≡◌, ◌≤◌, replicate, bit_and};
 ghost use Rattle.ctr_csrs.specs.ControlFigure.{m_mask, s_mask};
 ghost use Rattle.ctr_buffer.specs.Entry.{zero_entry};
 ghost use Rattle.indirect_regs.specs.Unit.{fresh_unit};
-ghost use Rattle.task_switch.specs.Saved.{held, Whole};
+ghost use Rattle.task_switch.specs.SaveArea.{unit_in, IsWhole};
 ghost use Rattle.ctr_csrs.specs.Depths.{entries_of};
 
 use crate::slots::Slots;
@@ -36,8 +36,8 @@ impl SaveArea {
     /// bits that `mctrctl` and `vsctrctl` keep.
     pub fn fresh(depth: Depth, m: u64, vs: u64) -> SaveArea
         ensures area { result ≡ record { m = bit_and m m_mask; vs = bit_and vs s_mask; depth = depth; status = 0; select = 0; slots = replicate (entries_of depth) zero_entry } }
-        ensures holds { held result ≡ record (fresh_unit depth) { m = bit_and m m_mask; vs = bit_and vs s_mask } }
-        ensures whole { Whole result }
+        ensures holds { unit_in result ≡ record (fresh_unit depth) { m = bit_and m m_mask; vs = bit_and vs s_mask } }
+        ensures whole { IsWhole result }
     {
         SaveArea {
             m: legal_m(m).word(),

@@ -1,7 +1,7 @@
 ghost use Rattle.std.specs.Prelude.{◌≡◌, ◌≤◌, ◌+◌, ◌*◌, ◌^◌, take, length};
 ghost use Rattle.ctr_csrs.specs.Depths.{entries_of};
-ghost use Rattle.task_switch.specs.Saved.{saved, held, Whole};
-ghost use Rattle.task_switch.specs.Passed.{passed, at_last};
+ghost use Rattle.task_switch.specs.SaveArea.{area_of, unit_in, IsWhole};
+ghost use Rattle.task_switch.specs.Passed.{passed, with_last_select};
 
 use crate::entry::{read_depth, read_entry};
 use crate::save_area::SaveArea;
@@ -13,10 +13,10 @@ use indirect_regs::{CtrPort, PortReg};
 /// at the last entry.
 pub fn save<P: CtrPort>(port: &mut P, area: &mut SaveArea)
     requires { P.count port.old ≤ 2 ^ 62 }
-    ensures area { area.new ≡ saved (P.unit port.old) }
-    ensures holds { held area.new ≡ P.unit port.old }
-    ensures whole { Whole area.new }
-    ensures unit { P.unit port.new ≡ at_last (P.unit port.old) }
+    ensures area { area.new ≡ area_of (P.unit port.old) }
+    ensures holds { unit_in area.new ≡ P.unit port.old }
+    ensures whole { IsWhole area.new }
+    ensures unit { P.unit port.new ≡ with_last_select (P.unit port.old) }
     ensures count { P.count port.new ≡ P.count port.old + (5 + 4 * entries_of (P.unit port.old).stack.depth) }
     ensures rest { P.same_rest port.old port.new }
 {

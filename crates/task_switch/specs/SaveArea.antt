@@ -8,8 +8,8 @@ use Rattle.indirect_regs.specs.Unit.{UnitState}
 use Rattle.task_switch.specs.declared.save_area.SaveArea.{SaveArea}
 
 -- what is kept of a unit
-abbrev pub saved : UnitState → SaveArea
-saved u = record {
+abbrev pub area_of : UnitState → SaveArea
+area_of u = record {
   m = u.m;
   vs = u.vs;
   depth = u.stack.depth;
@@ -19,8 +19,8 @@ saved u = record {
 }
 
 -- the unit that an area holds
-abbrev pub held : SaveArea → UnitState
-held a = record {
+abbrev pub unit_in : SaveArea → UnitState
+unit_in a = record {
   m = a.m;
   vs = a.vs;
   frozen = frozen_in a.status;
@@ -29,7 +29,7 @@ held a = record {
 }
 
 -- each word is one that its register can hold, and there are as many entries as the depth says
-pub record Whole (a : SaveArea) : Type 0 where
+pub record IsWhole (a : SaveArea) : Type 0 where
   pub m : bit_and a.m m_mask ≡ a.m
   pub vs : bit_and a.vs s_mask ≡ a.vs
   pub status : word_of (record { wrptr = pointer_in a.status a.depth; frozen = frozen_in a.status }) ≡ a.status
