@@ -14,5 +14,6 @@ SECTIONS
     .bss (NOLOAD) : { *(.sbss .sbss.*) *(.bss .bss.*) *(COMMON) } > ram
     __stack_top = ORIGIN(ram) + LENGTH(ram);
     ASSERT(. + 1024 <= __stack_top, "no room for the stack")
-    /DISCARD/ : { *(.comment) *(.note .note.*) *(.eh_frame) *(.riscv.attributes) }
+    .riscv.attributes 0 : { *(.riscv.attributes) }   /* tells disassemblers that there is the extension M */
+    /DISCARD/ : { *(.comment) *(.note .note.*) *(.eh_frame) }
 }

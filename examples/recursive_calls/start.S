@@ -24,8 +24,8 @@ _start:
 
 enter:
         call    main
-done:
-        j       done
+1:
+        j       1b                      # a local label, so that no tool takes it for a function
 
         .balign 4
 trap:
