@@ -7,6 +7,8 @@ use indirect_regs::{CtrPort, PortReg};
 use std::alloc::Global;
 use std::process::Abort;
 
+mod endings;
+
 // A program at 0x80000000 in a memory of 64 or 128 bytes, what is pending at its first step, how many steps it makes,
 // and what the hart holds after them. Registers and CSRs that aren't named aren't looked at.
 #[derive(Clone, Copy)]
