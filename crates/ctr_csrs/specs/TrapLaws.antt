@@ -47,7 +47,8 @@ is_between bit from to = is_above (enabled_mode bit) from && not (is_above (enab
 
 -- those are the bits that the trap needs
 abbrev pub NeedsBetween : Mode → Mode → TrapEnable → Type 0
-NeedsBetween from to bit = IfSome (needed from to) (λ bits. has_bit bit bits ≡ is_between bit from to)
+NeedsBetween from to bit =
+    IfSome (needed from to) (λ bits. has_bit bit bits ≡ is_between bit from to)
 
 abbrev pub NeedsModesBetween : Type 0
 NeedsModesBetween = (from to : Mode) (bit : TrapEnable) → NeedsBetween from to bit

@@ -10,7 +10,8 @@ pub fn register_laws()
     ensures frozen_comes_back { FrozenComesBack }
 {}
 
-/// Between which modes a trap goes, and which trap-enable bits an external trap needs: a proof and no work.
+/// Between which modes a trap goes, and which trap-enable bits an external trap needs: a proof and
+/// no work.
 pub fn trap_laws()
     ensures pairs_rise { PairsRise }
     ensures needs_modes_between { NeedsModesBetween }

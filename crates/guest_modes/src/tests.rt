@@ -48,7 +48,8 @@ fn each_cause_has_the_number_of_the_standard(rt: HostRuntime) {
     }
 }
 
-// RISC-V Privileged Architecture, "Machine Interrupt Registers", and the counter overflow of Sscofpmf.
+// RISC-V Privileged Architecture, "Machine Interrupt Registers", and the counter overflow of
+// Sscofpmf.
 #[test]
 fn ten_numbers_are_those_of_interrupts(rt: HostRuntime) {
     for number in [1, 2, 3, 5, 6, 7, 9, 10, 11, 13] {

@@ -33,7 +33,8 @@ imm_s_fits w =
 pub imm_b_fits : (w : ℕ) → imm_b_of w < 2 ^ 64
 imm_b_fits w =
     let high = field_of 31 1 w * 2 ^ 12 + field_of 7 1 w * 2 ^ 11 in
-    extended_fits 13 (high + field_of 25 6 w * 2 ^ 5 + field_of 8 4 w * 2) (omega arith) (omega arith)
+    extended_fits 13 (high + field_of 25 6 w * 2 ^ 5 + field_of 8 4 w * 2)
+    (omega arith) (omega arith)
 
 pub imm_u_fits : (w : ℕ) → imm_u_of w < 2 ^ 64
 imm_u_fits w = extended_fits 32 (field_of 12 20 w * 2 ^ 12) (omega arith) (omega arith)
@@ -41,7 +42,8 @@ imm_u_fits w = extended_fits 32 (field_of 12 20 w * 2 ^ 12) (omega arith) (omega
 pub imm_j_fits : (w : ℕ) → imm_j_of w < 2 ^ 64
 imm_j_fits w =
     let high = field_of 31 1 w * 2 ^ 20 + field_of 12 8 w * 2 ^ 12 in
-    extended_fits 21 (high + field_of 20 1 w * 2 ^ 11 + field_of 21 10 w * 2) (omega arith) (omega arith)
+    extended_fits 21 (high + field_of 20 1 w * 2 ^ 11 + field_of 21 10 w * 2)
+    (omega arith) (omega arith)
 
 pub table_fits : (w : ℕ) → AllFit table w
 table_fits w =

@@ -5,4 +5,5 @@ use Rattle.std.specs.Int.{w64, cast_signed}
 use Rattle.xfer_class.specs.Missed.{is_backward}
 
 abbrev pub BackwardIsNegative : Type 0
-BackwardIsNegative = (off : ℕ) → off < 2 ^ 64 → is_backward off ≡ int_lt (cast_signed w64 off) (pos 0)
+BackwardIsNegative =
+    (off : ℕ) → off < 2 ^ 64 → is_backward off ≡ int_lt (cast_signed w64 off) (pos 0)
