@@ -8,6 +8,7 @@ ghost use Rattle.sched_text.specs.Cuts.{is_open};
 ghost use Rattle.sched_text.specs.Hand.{HasLine};
 
 use crate::cutting::{Seen, line_in};
+use crate::limits::WINDOW;
 use crate::window::Window;
 use ctr_port::{Got, Source};
 
@@ -28,7 +29,7 @@ pub(crate) fn read_line<S: Source>(window: &mut Window, source: &mut S) -> Resul
     ensures same { Same window.old (S.left source.old) window.new (S.left source.new) }
     ensures line { HasLine window.new (S.left source.new) result }
     ensures later { S.faults source.old ≤ S.faults source.new }
-    ensures hand { length window.new ≤ 4096 }
+    ensures hand { length window.new ≤ WINDOW }
     ensures cause { result ≡ Err Stop.Failed → Rose (S.faults source.old) (S.faults source.new) }
     ensures still { is_open (line_at window.old) ≡ false → (window.new ≡ window.old) × (source.new ≡ source.old) }
 {
