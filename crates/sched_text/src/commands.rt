@@ -38,7 +38,7 @@ fn finish<S: Source>(window: &mut Window, source: &mut S, line: u32) -> Result<(
             reason: Reason::Trailing,
         }));
     }
-    match window.fill(source) {
+    match window.fill(source, WINDOW) {
         Got::Bytes(_) => Err(CommandFault::Line(LineFault {
             line: line + 1,
             reason: Reason::Trailing,
@@ -74,7 +74,7 @@ pub(crate) fn next_command<S: Source>(
     ensures fewer { IfOk result (λ _. length window.new < WINDOW) }
     ensures few { IfOk result (λ command. is_end command ≡ false → commands < MOST_COMMANDS) }
 {
-    let count = match read_line(window, source) {
+    let count = match read_line(window, source, WINDOW) {
         Ok(count) => count,
         Err(stop) => match stop {
             Stop::Long => {

@@ -32,7 +32,7 @@ fn one_line<S: Source>(
     ensures later { S.faults source.old ≤ S.faults source.new }
     ensures cause { result ≡ Err ScheduleFault.ReadFault → Rose (S.faults source.old) (S.faults source.new) }
 {
-    let count = match read_line(window, source) {
+    let count = match read_line(window, source, WINDOW) {
         Ok(count) => count,
         Err(stop) => match stop {
             Stop::Long => {

@@ -47,7 +47,7 @@ pub(crate) fn read_image<S: Source>(
         Err(NoMemory) => return Err(ScheduleFault::Memory),
     }
     while image.items().len() < wanted {
-        match window.fill(source) {
+        match window.fill(source, WINDOW) {
             Got::Bytes(_) => {}
             Got::End => {
                 return Err(ScheduleFault::Line(LineFault {

@@ -2,7 +2,7 @@
 
 ghost use Rattle.std.specs.Prelude.{◌≡◌, ◌<◌, ◌≤◌, length, drop, []};
 ghost use Rattle.ctr_port.specs.Counts.{Rose};
-ghost use Rattle.sched_text.specs.Hand.{Fills};
+ghost use Rattle.sched_text.specs.Hand.{Fills, IsAtMost};
 
 use crate::limits::WINDOW;
 use arrayvec::ArrayVec;
@@ -53,16 +53,18 @@ impl Window {
         self.start += count;
     }
 
-    /// Reads once, as far as there is room.
-    pub(crate) fn fill<S: Source>(&mut self, source: &mut S) -> Got
-        requires { length self.old < WINDOW }
+    /// Reads once, at most so many bytes, as far as there is room.
+    pub(crate) fn fill<S: Source>(&mut self, source: &mut S, most: usize) -> Got
+        requires room { length self.old < WINDOW }
+        requires some { 0 < most }
+        ensures asks { IsAtMost most result }
         ensures fills { Fills (S.left source.old) (S.left source.new) self.old self.new result }
         ensures most { length self.new ≤ WINDOW }
         ensures later { S.faults source.old ≤ S.faults source.new }
         ensures cause { result ≡ Got.Failed → Rose (S.faults source.old) (S.faults source.new) }
     {
         let mut piece = [0u8; WINDOW];
-        let room = WINDOW - self.bytes().len();
+        let room = most.min(WINDOW - self.bytes().len());
         let got = source.read(&mut piece[..room]);
         if let Got::Bytes(count) = got {
             let mut kept = ArrayVec::new();
