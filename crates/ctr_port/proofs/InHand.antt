@@ -1,7 +1,7 @@
 -- Readers that keep bytes in hand: what a read changes, and one step of a reading after another.
-use Rattle.std.proofs.Common.{◌≡◌, ℕ, List, [], ◌++◌, Option, None, Some, refl, sym, ap, ◌∙◌, append_assoc, subst}
+use Rattle.std.proofs.Common.{◌≡◌, ℕ, List, ◌++◌, Option, None, Some, sym, ap, ◌∙◌, append_assoc, subst}
 use Rattle.std.proofs.KnownBytes.{Keeps-refl, Keeps-trans}
-use Rattle.std.specs.Io.KnownBytes.{Keeps, Consumes, prepend_known}
+use Rattle.std.specs.Io.KnownBytes.{Keeps, Consumes}
 use Rattle.ctr_port.specs.InHand.{text_of, Same, Of}
 
 pub same_self : (hand : List ℕ) (left : Option (List ℕ)) → Same hand left hand left

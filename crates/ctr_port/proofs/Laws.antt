@@ -1,5 +1,5 @@
 -- What readers and writers in pieces want of the ends: pieces joined, proper prefixes, and reads into a buffer's middle.
-use Rattle.std.proofs.Common.{◌≡◌, ℕ, ◌+◌, ◌-◌, ◌<◌, ◌≤◌, List, [], ◌++◌, length, take, drop, arith, sym, ◌∙◌, ap, subst, length-append, take-append-drop}
+use Rattle.std.proofs.Common.{◌≡◌, ℕ, ◌+◌, ◌<◌, ◌≤◌, List, [], ◌++◌, length, take, drop, arith, sym, ◌∙◌, ap, subst, length-append, take-append-drop}
 use Rattle.std.proofs.KnownBytes.{Consumes-nil, Consumes-trans}
 use Rattle.std.proofs.Math.Seq.{take-append-add, take-add, take-append_seam}
 use Rattle.std.proofs.lemmas.List.{take-append-le, length-take-le, drop-drop}
@@ -65,3 +65,8 @@ read_within at k n buf ys h within =
     let front = take at buf in
     let rest = post_of at k buf in
     omega (arith, length-take-le at buf h, length-append front (ys ++ rest), length-append ys rest, within)
+
+-- a proper prefix isn't the whole
+pub part_apart : (held held' bytes : List ℕ) (n : ℕ) → n < length bytes → held' ≡ held ++ take n bytes → held' ≡ held ++ bytes → ⊥
+part_apart held held' bytes n less part whole =
+    omega (arith, less, ap length part, ap length whole, length-append held (take n bytes), length-append held bytes, length-take-le n bytes (omega (arith, less)))

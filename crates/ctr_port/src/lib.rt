@@ -6,6 +6,7 @@
 #![tactic(auto)]
 
 mod ends;
+mod facts;
 mod memory_sink;
 mod memory_source;
 mod script;
@@ -17,6 +18,7 @@ mod std_source;
 mod tests;
 
 pub use ends::{Got, NoMemory, Put, WriteFault};
+pub use facts::port_laws;
 pub use memory_sink::MemSink;
 pub use memory_source::MemSource;
 pub use sink::{Sink, write_whole};

@@ -59,6 +59,24 @@ fn whole_bytes_are_written_in_pieces_of_one(rt: HostRuntime) -> Result<(), NoMem
     Ok(())
 }
 
+#[test]
+fn a_failed_write_is_answered_and_not_tried_again(rt: HostRuntime) -> Result<(), NoMemory> {
+    for failing in 0..3u64 {
+        // There is room for all, and the call behind the one that fails would take its bytes.
+        let mut sink = MemSink::new(rt.alloc(), 8, &[2], &[failing])?;
+        assert_eq!(rt;
+            write_whole(&mut sink, b"abcdef"),
+            Err(WriteFault),
+            "at {failing}"
+        );
+        let taken = 2 * failing as usize;
+        assert_eq!(rt; sink.bytes(), b"abcdef".split_at(taken).0, "at {failing}");
+        assert_eq!(rt; write_whole(&mut sink, b"gh"), Ok(()), "at {failing}");
+        assert_eq!(rt; sink.bytes().len(), taken + 2, "at {failing}");
+    }
+    Ok(())
+}
+
 // Gives two bytes at each read, and fails once they are gone.
 #[derive(Drop)]
 struct TwoThenFail(u8);

@@ -1,9 +1,8 @@
 -- The header of a sample, which comes first.
-use Rattle.std.proofs.Common.{◌≡◌, ℕ, ◌-◌, ◌^◌, ◌<◌, List, [], ◌∷◌, ◌++◌, map, length, false, nat_eq, Option, Some, None, refl, sym, ap, ◌∙◌, arith, length-append, append_assoc, append-nil, lt-ltb, inl, inr}
+use Rattle.std.proofs.Common.{◌≡◌, ℕ, ◌^◌, ◌<◌, List, [], ◌∷◌, ◌++◌, map, length, false, nat_eq, Option, Some, None, refl, sym, ap, ◌∙◌, arith, length-append, append_assoc, append-nil, lt-ltb, inl, inr}
 use Rattle.std.proofs.lemmas.Bool.{ne_eqb, eq-eqb}
 use Rattle.std.proofs.lemmas.List.{drop_all}
 use Rattle.std.specs.Io.KnownBytes.{Consumes, IsAtEnd}
-use Rattle.std.specs.List.{flat_map}
 use Rattle.ctr_port.specs.InHand.{Of}
 use Rattle.perf_sample.specs.Layout.{LayoutWords, all_fields, fields_in, nr_at}
 use Rattle.perf_sample.specs.Spelling.{le}
@@ -11,7 +10,6 @@ use Rattle.perf_sample.specs.Breaks.{number_at, is_size, Header, At, branch_fiel
 use Rattle.perf_sample.specs.Reading.{cut_at, IsPartial}
 use Rattle.perf_sample.specs.declared.faults.SampleFault.{SampleFault}
 use Rattle.perf_sample.specs.declared.faults.SampleFault.TheVariants as fault
-use Rattle.perf_sample.specs.declared.faults.Place.TheVariants as place
 use Rattle.perf_sample.proofs.BreakLaws.{cut_first, stops, length_le, number_read, number_behind, not_empty}
 use Rattle.perf_sample.proofs.ReadingLaws.{of_taken}
 

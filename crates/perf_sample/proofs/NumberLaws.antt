@@ -1,7 +1,9 @@
 -- Numbers as bytes, and back.
-use Rattle.std.proofs.Common.{◌≡◌, ℕ, ◌+◌, ◌<◌, List, ◌++◌, length, take, drop, get_or, sym, ap, ◌∙◌, subst, arith, inl, inr, append_assoc}
+use Rattle.std.proofs.Common.{◌≡◌, ℕ, zero, suc, ◌+◌, ◌<◌, List, [], ◌∷◌, ◌++◌, length, take, drop, get_or, sym, ap, ◌∙◌, subst, arith, inl, inr, append_assoc}
 use Rattle.std.proofs.lemmas.Nat.{le_bytes_2, le_bytes_4, le_bytes_8}
 use Rattle.std.proofs.lemmas.Bool.{cases_lt}
+use Rattle.std.proofs.lemmas.List.Elements.{All-head, All-tail}
+use Rattle.std.specs.List.{All}
 use Rattle.std.proofs.lemmas.List.{get_or-drop, length-drop, length-take, get_or-take, get_or_past, take-append-drop}
 use Rattle.byteorder.specs.Endian.{little_number}
 use Rattle.perf_sample.specs.Spelling.{le}
@@ -11,6 +13,11 @@ abbrev pub AreBytes : List ℕ → Type 0
 AreBytes bytes = (i : ℕ) → get_or bytes i 0 < 256
 
 -- the bytes of the number that eight bytes spell are those bytes
+pub all_are_bytes : (bytes : List ℕ) → All (λ b. b < 256) bytes → AreBytes bytes
+all_are_bytes [] all i = omega arith
+all_are_bytes (b ∷ bs) all zero = All-head (λ n. n < 256) b bs all
+all_are_bytes (b ∷ bs) all (suc i) = all_are_bytes bs (All-tail (λ n. n < 256) b bs all) i
+
 pub number_back : (bytes : List ℕ) → length bytes ≡ 8 → AreBytes bytes → le 8 (little_number 8 bytes) ≡ bytes
 unfolding le
 number_back bytes len are = le_bytes_8 bytes (little_number 8 bytes) len are (omega arith)

@@ -1,5 +1,5 @@
 -- The fields between the header and the branches, read one by one.
-use Rattle.std.proofs.Common.{◌≡◌, ℕ, zero, suc, ◌+◌, ◌^◌, ◌<◌, List, [], ◌∷◌, ◌++◌, map, length, take, drop, get_or, Option, Some, None, Result, Ok, Err, refl, sym, ap, ◌∙◌, subst, arith, inl, inr, append_assoc, append-nil, length-append, true, false}
+use Rattle.std.proofs.Common.{◌≡◌, ℕ, zero, suc, ◌+◌, ◌^◌, ◌<◌, List, [], ◌∷◌, ◌++◌, map, length, take, drop, get_or, Option, Some, Result, Ok, Err, refl, sym, ap, ◌∙◌, subst, arith, inl, inr, append_assoc, append-nil, length-append, true, false}
 use Rattle.std.proofs.lemmas.Bool.{ne_eqb}
 use Rattle.std.proofs.lemmas.List.{map-append}
 use Rattle.std.specs.Io.KnownBytes.{Consumes}
@@ -7,21 +7,20 @@ use Rattle.std.specs.List.{AllByRecursion}
 use Rattle.ctr_port.proofs.Laws.{taken_then}
 use Rattle.perf_sample.specs.declared.sample.Sample.{Sample}
 use Rattle.perf_sample.specs.declared.words.Word.{Word}
-use Rattle.perf_sample.specs.declared.words.Word.TheVariants as word
 use Rattle.perf_sample.specs.declared.faults.Place.{Place}
 use Rattle.perf_sample.specs.declared.faults.Place.TheVariants as place
 use Rattle.perf_sample.specs.declared.faults.SampleFault.{SampleFault}
 use Rattle.perf_sample.specs.declared.faults.SampleFault.TheVariants as fault
 use Rattle.perf_sample.specs.Words.{word_of, InWidth}
-use Rattle.perf_sample.specs.Layout.{LayoutWords, has, before_nr, all_fields, fields_in, LeftOut, Fits}
+use Rattle.perf_sample.specs.Layout.{LayoutWords, has, before_nr, all_fields, fields_in, Fits}
 use Rattle.perf_sample.specs.Range.{IsSample}
 use Rattle.perf_sample.specs.Spelling.{le, place_bytes, fields_bytes}
-use Rattle.perf_sample.specs.Breaks.{number_at, Field, At, wrong_in, first_of}
+use Rattle.perf_sample.specs.Breaks.{number_at, Field, At, first_of}
 use Rattle.perf_sample.specs.Reading.{cut_at, Stopped}
-use Rattle.perf_sample.specs.Rows.{with_word, SetsOnly, SameWord, Holds, PutsIn, TakesRow, TakesRows, TakesHwIndex}
+use Rattle.perf_sample.specs.Rows.{with_word, SetsOnly, SameWord, Holds, PutsIn, TakesRow, TakesHwIndex}
 use Rattle.perf_sample.proofs.BreakLaws.{cut_first, stops, early, length_le, number_behind}
 use Rattle.perf_sample.proofs.ReadingLaws.{stopped_after, stopped_as, of_taken}
-use Rattle.perf_sample.proofs.FieldLaws.{SameBut, IsRight, fields_pass, same_bytes, bytes_there, bytes_out, in_there, in_left_out, in_split, left_out_kept, widths_kept}
+use Rattle.perf_sample.proofs.FieldLaws.{SameBut, IsRight, fields_pass, same_bytes, bytes_there, in_there, in_left_out, in_split, left_out_kept, widths_kept}
 
 abbrev none : Place
 none = place.Identifier

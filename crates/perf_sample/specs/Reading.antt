@@ -1,5 +1,5 @@
 -- What reading a field does to the bytes that a source has left, and how reading stops.
-use Rattle.std.specs.Prelude.{◌≡◌, ◌⊎◌, ℕ, ◌+◌, ◌*◌, ◌<◌, ◌≤◌, Bool, true, false, if◌then◌else◌, nat_lt, List, [], ◌∷◌, ◌++◌, length, drop, Option, Some, None, Result, Ok, Err}
+use Rattle.std.specs.Prelude.{◌≡◌, ◌⊎◌, ℕ, ◌+◌, ◌*◌, ◌<◌, ◌≤◌, Bool, true, false, if◌then◌else◌, nat_lt, List, [], ◌∷◌, length, drop, Option, Some, None, Result, Ok, Err}
 use Rattle.std.specs.List.{flat_map}
 use Rattle.std.specs.Io.KnownBytes.{Consumes, IsAtEnd}
 use Rattle.ctr_port.specs.InHand.{Of}
@@ -33,6 +33,15 @@ abbrev pub cause_of : SampleFault → Cause
 cause_of fault.ReadFault = OfRead
 cause_of fault.TooMany = OfCount
 cause_of _ = OfBytes
+
+-- a fault of the source, told by a reader of samples or of a field
+abbrev pub is_read : SampleFault → Bool
+is_read fault.ReadFault = true
+is_read _ = false
+
+abbrev pub is_failed : Stop → Bool
+is_failed stop.Failed = true
+is_failed (stop.Ended n) = false
 
 -- a field is cut short
 abbrev pub is_short : SampleFault → Bool

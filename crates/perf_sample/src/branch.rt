@@ -1,9 +1,9 @@
 //! A branch, read field by field.
 
 ghost use Rattle.std.specs.Prelude.{◌≡◌, ◌≤◌, All, IfOk};
-ghost use Rattle.ctr_port.specs.Counts.{Rose};
+ghost use Rattle.ctr_port.specs.Counts.{HasCause};
 ghost use Rattle.perf_sample.specs.BranchRange.{IsBranch};
-ghost use Rattle.perf_sample.specs.Reading.{TakesPlace, TakesNumber, TakesBranch, TakesBranches, TakesNr};
+ghost use Rattle.perf_sample.specs.Reading.{is_read, TakesPlace, TakesNumber, TakesBranch, TakesBranches, TakesNr};
 
 use crate::branches::Branches;
 use crate::faults::{Place, SampleFault};
@@ -17,8 +17,7 @@ use ctr_port::Source;
 /// Reads the field of a place.
 pub(crate) fn read_place<S: Source>(source: &mut S, place: Place) -> Result<[u8; 8], SampleFault>
     ensures takes { TakesPlace place (S.left source.old) (S.left source.new) result }
-    ensures later { S.faults source.old ≤ S.faults source.new }
-    ensures cause { result ≡ Err SampleFault.ReadFault → Rose (S.faults source.old) (S.faults source.new) }
+    ensures cause { HasCause is_read (S.faults source.old) (S.faults source.new) result }
 {
     match read_field(source) {
         Ok(bytes) => Ok(bytes),
@@ -32,8 +31,7 @@ pub(crate) fn read_place<S: Source>(source: &mut S, place: Place) -> Result<[u8;
 /// Reads a number in a field of its own.
 pub(crate) fn read_number<S: Source>(source: &mut S, place: Place) -> Result<u64, SampleFault>
     ensures takes { TakesNumber place (S.left source.old) (S.left source.new) result }
-    ensures later { S.faults source.old ≤ S.faults source.new }
-    ensures cause { result ≡ Err SampleFault.ReadFault → Rose (S.faults source.old) (S.faults source.new) }
+    ensures cause { HasCause is_read (S.faults source.old) (S.faults source.new) result }
 {
     let bytes = read_place(source, place)?;
     Ok(number(&bytes))
@@ -43,8 +41,7 @@ pub(crate) fn read_number<S: Source>(source: &mut S, place: Place) -> Result<u64
 pub(crate) fn read_branch<S: Source>(source: &mut S, number: u16) -> Result<Branch, SampleFault>
     ensures takes { TakesBranch number (S.left source.old) (S.left source.new) result }
     ensures range { IfOk result IsBranch }
-    ensures later { S.faults source.old ≤ S.faults source.new }
-    ensures cause { result ≡ Err SampleFault.ReadFault → Rose (S.faults source.old) (S.faults source.new) }
+    ensures cause { HasCause is_read (S.faults source.old) (S.faults source.new) result }
 {
     let from = read_number(source, Place::From(number))?;
     let to = read_number(source, Place::To(number))?;
@@ -60,8 +57,7 @@ pub(crate) fn read_branches<S: Source>(source: &mut S, nr: u16) -> Result<Branch
     requires { nr ≤ 256 }
     ensures takes { TakesBranches nr (S.left source.old) (S.left source.new) result }
     ensures range { IfOk result (All IsBranch) }
-    ensures later { S.faults source.old ≤ S.faults source.new }
-    ensures cause { result ≡ Err SampleFault.ReadFault → Rose (S.faults source.old) (S.faults source.new) }
+    ensures cause { HasCause is_read (S.faults source.old) (S.faults source.new) result }
 {
     let mut branches = Branches::new();
     for number in 0..nr {
@@ -78,8 +74,7 @@ pub(crate) fn read_nr<S: Source>(
     size: u16,
 ) -> Result<u16, SampleFault>
     ensures takes { TakesNr layout size (S.left source.old) (S.left source.new) result }
-    ensures later { S.faults source.old ≤ S.faults source.new }
-    ensures cause { result ≡ Err SampleFault.ReadFault → Rose (S.faults source.old) (S.faults source.new) }
+    ensures cause { HasCause is_read (S.faults source.old) (S.faults source.new) result }
 {
     let nr = read_number(source, Place::Nr)?;
     if nr > 256 {

@@ -1,8 +1,8 @@
 //! One field of eight bytes, read as far as it goes.
 
 ghost use Rattle.std.specs.Prelude.{◌≡◌, ◌≤◌};
-ghost use Rattle.ctr_port.specs.Counts.{Rose};
-ghost use Rattle.perf_sample.specs.Reading.{TakesField};
+ghost use Rattle.ctr_port.specs.Counts.{HasCause};
+ghost use Rattle.perf_sample.specs.Reading.{is_failed, TakesField};
 
 use ctr_port::{Got, Source};
 
@@ -18,8 +18,7 @@ pub(crate) enum Stop {
 /// Reads the eight bytes of a field, and none beyond them.
 pub(crate) fn read_field<S: Source>(source: &mut S) -> Result<[u8; 8], Stop>
     ensures takes { TakesField (S.left source.old) (S.left source.new) result }
-    ensures later { S.faults source.old ≤ S.faults source.new }
-    ensures cause { result ≡ Err Stop.Failed → Rose (S.faults source.old) (S.faults source.new) }
+    ensures cause { HasCause is_failed (S.faults source.old) (S.faults source.new) result }
 {
     let mut bytes = [0u8; 8];
     let mut at = 0;

@@ -1,8 +1,8 @@
 //! The header of a sample.
 
 ghost use Rattle.std.specs.Prelude.{◌≡◌, ◌≤◌};
-ghost use Rattle.ctr_port.specs.Counts.{Rose};
-ghost use Rattle.perf_sample.specs.Reading.{TakesHeader};
+ghost use Rattle.ctr_port.specs.Counts.{HasCause};
+ghost use Rattle.perf_sample.specs.Reading.{is_read, TakesHeader};
 
 use crate::faults::SampleFault;
 use crate::fields::{Stop, read_field};
@@ -24,8 +24,7 @@ pub(crate) fn read_header<S: Source>(
     layout: Layout,
 ) -> Result<Option<Header>, SampleFault>
     ensures takes { TakesHeader layout (S.left source.old) (S.left source.new) result }
-    ensures later { S.faults source.old ≤ S.faults source.new }
-    ensures cause { result ≡ Err SampleFault.ReadFault → Rose (S.faults source.old) (S.faults source.new) }
+    ensures cause { HasCause is_read (S.faults source.old) (S.faults source.new) result }
 {
     let bytes = match read_field(source) {
         Ok(bytes) => bytes,

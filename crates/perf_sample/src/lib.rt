@@ -27,7 +27,7 @@ pub use flags::{
     BRANCH_SIZE, FIRST_RESERVED, HW_INDEX, MISC_GUEST_KERNEL, MISC_GUEST_USER, MISC_HYPERVISOR,
     MISC_KERNEL, MISC_USER, MISPRED, PERF_RECORD_SAMPLE, PREDICTED, TYPE,
 };
-pub use laws::{no_proper_prefix, one_of_three};
+pub use laws::sample_laws;
 pub use layout::Layout;
 pub use perf_types::perf_type;
 pub use reader::SampleReader;

@@ -1,7 +1,8 @@
 //! Samples read from their source, call by call.
 
 ghost use Rattle.std.specs.Prelude.{◌≡◌, ℕ, ◌≤◌, ◌<◌, List, [], ◌∷◌, ◌++◌, Some, None, length, IfOk, IfSome};
-ghost use Rattle.ctr_port.specs.Counts.{Rose};
+ghost use Rattle.perf_sample.specs.Reading.{is_read};
+ghost use Rattle.ctr_port.specs.Counts.{HasCause};
 ghost use Rattle.perf_sample.specs.Layout.{LayoutWords};
 ghost use Rattle.perf_sample.specs.Spelling.{spelling, Spells};
 ghost use Rattle.perf_sample.specs.Breaks.{Breaks};
@@ -55,8 +56,7 @@ fn length_of(layout: Layout, sample: &Sample) -> u64
 fn look_past<S: Source>(source: &mut S) -> Result<Option<Sample>, SampleFault>
     ensures nexted { (layout : LayoutWords) → Nexted layout most (S.left source.old) (S.left source.new) result }
     ensures none { IfOk result (λ next. next ≡ None) }
-    ensures later { S.faults source.old ≤ S.faults source.new }
-    ensures cause { result ≡ Err SampleFault.ReadFault → Rose (S.faults source.old) (S.faults source.new) }
+    ensures cause { HasCause is_read (S.faults source.old) (S.faults source.new) result }
 {
     let mut byte = [0u8; 1];
     match source.read(&mut byte) {
@@ -75,8 +75,7 @@ fn read_next<S: Source>(
     requires { given ≤ most }
     ensures nexted { Nexted layout given (S.left source.old) (S.left source.new) result }
     ensures range { IfOk result (λ next. IfSome next IsSample) }
-    ensures later { S.faults source.old ≤ S.faults source.new }
-    ensures cause { result ≡ Err SampleFault.ReadFault → Rose (S.faults source.old) (S.faults source.new) }
+    ensures cause { HasCause is_read (S.faults source.old) (S.faults source.new) result }
 {
     if given == MOST {
         look_past(source)
@@ -112,8 +111,7 @@ impl SampleReader {
         ensures nexted { Nexted self.old.layout self.old.given (S.left source.old) (S.left source.new) result }
         ensures range { IfOk result (λ next. IfSome next IsSample) }
         ensures after { self.new ≡ after self.old result }
-        ensures later { S.faults source.old ≤ S.faults source.new }
-        ensures cause { result ≡ Err SampleFault.ReadFault → Rose (S.faults source.old) (S.faults source.new) }
+        ensures cause { HasCause is_read (S.faults source.old) (S.faults source.new) result }
     {
         match read_next(source, self.layout, self.given) {
             Ok(next) => match next {
@@ -139,8 +137,7 @@ impl SampleReader {
         ensures nexted { self.old.refused ≡ None → Nexted self.old.layout self.old.given (S.left source.old) (S.left source.new) result }
         ensures after { self.old.refused ≡ None → self.new ≡ after self.old result }
         ensures again { (fault : SampleFault) → self.old.refused ≡ Some fault → (result ≡ Err fault) × (self.new ≡ self.old) × (source.new ≡ source.old) }
-        ensures later { S.faults source.old ≤ S.faults source.new }
-        ensures cause { self.old.refused ≡ None → result ≡ Err SampleFault.ReadFault → Rose (S.faults source.old) (S.faults source.new) }
+        ensures cause { self.old.refused ≡ None → HasCause is_read (S.faults source.old) (S.faults source.new) result }
         // The numbers of a sample lie in the widths of their fields, whatever the source is.
         ensures range { IfOk result (λ next. IfSome next IsSample) }
         // Of a source that tells its bytes each answer comes wherever its cause is there.

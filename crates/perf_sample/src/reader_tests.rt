@@ -1,7 +1,7 @@
 ghost use Rattle.std.specs.Prelude.{◌<◌, None};
 
 use super::*;
-use crate::tests::{EVERY_FIELD, ONE_CALL, written};
+use crate::tests::{EVERY_FIELD, EVERY_FIELD_AND_THE_INDEX, ONE_CALL, written};
 use ctr_port::{Got, MemSource, Source};
 use std::alloc::Global;
 use std::process::Abort;
@@ -224,12 +224,11 @@ fn refused_anywhere(
 fn each_is_refused(
     rt: &impl Abort,
     alloc: Global,
-    layout: u64,
+    layout: Layout,
     whole: &[u8],
     wrongs: &[Wrong],
     cuts: &[Cut],
 ) -> Result<(), Fail> {
-    let layout = Layout::of(layout).ok_or("a layout")?;
     for (len, fault) in cuts {
         let front = whole.get(..*len).ok_or("a front")?;
         refused_anywhere(rt, alloc, layout, whole, front, *fault)?;
@@ -248,7 +247,7 @@ fn each_break_of_one_call_has_its_fault(rt: HostRuntime) -> Result<(), Fail> {
     each_is_refused(
         &rt,
         rt.alloc(),
-        0x803,
+        Layout::of(0x803).ok_or("a layout")?,
         &ONE_CALL,
         &WRONG_IN_ONE_CALL,
         &CUTS_IN_ONE_CALL,
@@ -260,11 +259,95 @@ fn each_field_is_refused_where_it_breaks(rt: HostRuntime) -> Result<(), Fail> {
     each_is_refused(
         &rt,
         rt.alloc(),
-        0x10BCF,
+        Layout::of(0x10BCF).ok_or("a layout")?,
         &EVERY_FIELD,
         &WRONG_IN_EVERY_FIELD,
         &CUTS_IN_EVERY_FIELD,
     )
+}
+
+#[test]
+fn a_record_with_a_wrong_type_and_a_wrong_size_is_no_sample(rt: HostRuntime) -> Result<(), Fail> {
+    let layout = Layout::of(0x803).ok_or("a layout")?;
+    for (kind, size) in [(1, 57), (0, 0), (10, 31), (1, 55)] {
+        let mut bytes = ONE_CALL;
+        bytes[0] = kind;
+        bytes[6] = size;
+        refused_anywhere(
+            &rt,
+            rt.alloc(),
+            layout,
+            &ONE_CALL,
+            &bytes,
+            SampleFault::Kind,
+        )?;
+    }
+    Ok(())
+}
+
+// The hardware index stands at 88, behind the number of branches.
+const WRONG_WITH_AN_INDEX: [Wrong; 6] = [
+    (6, 0x70, 120, SampleFault::Size), // the size without it
+    (6, 0x80, 120, SampleFault::Size), // 128
+    (80, 0, 120, SampleFault::Size), // nr 0
+    (81, 1, 120, SampleFault::Count), // nr 257
+    (81, 1, 88, SampleFault::Count), // and the index is cut short
+    (116, 2, 120, SampleFault::FlagReserved(0)), // bit 33
+];
+
+const CUTS_WITH_AN_INDEX: [Cut; 16] = [
+    (72, SampleFault::Short(Place::Period)),
+    (79, SampleFault::Short(Place::Period)),
+    (80, SampleFault::Short(Place::Nr)),
+    (87, SampleFault::Short(Place::Nr)),
+    (88, SampleFault::Short(Place::HwIndex)),
+    (89, SampleFault::Short(Place::HwIndex)),
+    (90, SampleFault::Short(Place::HwIndex)),
+    (91, SampleFault::Short(Place::HwIndex)),
+    (92, SampleFault::Short(Place::HwIndex)),
+    (93, SampleFault::Short(Place::HwIndex)),
+    (94, SampleFault::Short(Place::HwIndex)),
+    (95, SampleFault::Short(Place::HwIndex)),
+    (96, SampleFault::Short(Place::From(0))),
+    (103, SampleFault::Short(Place::From(0))),
+    (104, SampleFault::Short(Place::To(0))),
+    (119, SampleFault::Short(Place::Flags(0))),
+];
+
+#[test]
+fn each_break_of_a_sample_with_an_index_has_its_fault(rt: HostRuntime) -> Result<(), Fail> {
+    let layout = Layout::of(0x10BCF).ok_or("a layout")?;
+    each_is_refused(
+        &rt,
+        rt.alloc(),
+        layout.with_branch(HW_INDEX).ok_or("a layout")?,
+        &EVERY_FIELD_AND_THE_INDEX,
+        &WRONG_WITH_AN_INDEX,
+        &CUTS_WITH_AN_INDEX,
+    )
+}
+
+#[test]
+fn an_index_is_cut_at_each_of_its_bytes_in_every_layout(rt: HostRuntime) -> Result<(), Fail> {
+    for bits in 0..0x2_0000u64 {
+        if let Some(layout) = Layout::of(bits) {
+            let layout = layout.with_branch(HW_INDEX).ok_or("a layout")?;
+            let out = written(layout, &filled(&rt, layout, 0))?;
+            let len = out.len();
+            // Without branches the index is the last field.
+            for missing in 1..9 {
+                let front = out
+                    .as_slice()
+                    .get(..len.saturating_sub(missing))
+                    .ok_or("a front")?;
+                let mut source = MemSource::new(rt.alloc(), front, &[], &[])?;
+                let next = SampleReader::new(layout).next(&mut source);
+                let fault = next.err().ok_or("a fault")?;
+                assert_eq!(rt; fault, SampleFault::Short(Place::HwIndex), "at {bits}");
+            }
+        }
+    }
+    Ok(())
 }
 
 // The same of a sample with ip, pid, tid and so many branches.
@@ -277,7 +360,7 @@ fn each_is_refused_among(
 ) -> Result<(), Fail> {
     let layout = Layout::of(0x803).ok_or("a layout")?;
     let out = written(layout, &filled(rt, layout, branches))?;
-    each_is_refused(rt, alloc, 0x803, out.as_slice(), wrongs, cuts)
+    each_is_refused(rt, alloc, layout, out.as_slice(), wrongs, cuts)
 }
 
 #[test]
@@ -327,6 +410,11 @@ fn filled(rt: &impl Abort, layout: Layout, branches: u16) -> Sample {
         stream_id: there(layout, 0x200, 0xB500_0000_0000_0008),
         cpu: half_there(layout, 0x80, 0xC200_0009),
         period: there(layout, 0x100, 0xB600_0000_0000_000A),
+        hw_index: if layout.branch_bits() == 0 {
+            0
+        } else {
+            0xB700_0000_0000_000B
+        },
         branches: Branches::new(),
     };
     for number in 0..branches {
@@ -361,8 +449,8 @@ fn are_same(rt: &impl Abort, sample: &Sample, other: &Sample, layout: u64) {
         "at {layout}"
     );
     assert_eq!(rt;
-        [sample.id, sample.stream_id, sample.period],
-        [other.id, other.stream_id, other.period],
+        [sample.id, sample.stream_id, sample.period, sample.hw_index],
+        [other.id, other.stream_id, other.period, other.hw_index],
         "at {layout}"
     );
     assert_eq!(rt;
@@ -403,8 +491,10 @@ fn come_back(
 fn samples_of_each_layout_come_back(rt: HostRuntime) -> Result<(), Fail> {
     for bits in 0..0x2_0000u64 {
         if let Some(layout) = Layout::of(bits) {
+            let indexed = layout.with_branch(HW_INDEX).ok_or("a layout")?;
             for piece in [1, 2, 7, 4095, 4096, 4097] {
                 come_back(&rt, rt.alloc(), layout, &[2, 0, 1], piece)?;
+                come_back(&rt, rt.alloc(), indexed, &[2, 0, 1], piece)?;
             }
         }
     }
@@ -415,8 +505,10 @@ fn samples_of_each_layout_come_back(rt: HostRuntime) -> Result<(), Fail> {
 fn up_to_two_hundred_and_fifty_six_branches_come_back(rt: HostRuntime) -> Result<(), Fail> {
     for bits in [0x800, 0x803, 0x883, 0x904, 0x10BCF] {
         let layout = Layout::of(bits).ok_or("a layout")?;
+        let indexed = layout.with_branch(HW_INDEX).ok_or("a layout")?;
         for piece in [1, 2, 7, 4095, 4096, 4097] {
             come_back(&rt, rt.alloc(), layout, &[256, 16, 256, 255], piece)?;
+            come_back(&rt, rt.alloc(), indexed, &[256, 16, 256, 255], piece)?;
         }
     }
     Ok(())
@@ -446,6 +538,7 @@ fn every_field_is_read_from_its_place(rt: HostRuntime) -> Result<(), Fail> {
         stream_id: 0xA800_0000_0000_0018,
         cpu: 0xA900_0019,
         period: 0xAA00_0000_0000_001A,
+        hw_index: 0,
         branches,
     };
     are_same(&rt, &wanted, &sample, 0x10BCF);

@@ -1,7 +1,8 @@
 //! The fields between the header and the branches, each read where the layout has it.
 
 ghost use Rattle.std.specs.Prelude.{◌≡◌, ◌≤◌, [], true, OnOk};
-ghost use Rattle.ctr_port.specs.Counts.{Rose};
+ghost use Rattle.perf_sample.specs.Reading.{is_read};
+ghost use Rattle.ctr_port.specs.Counts.{HasCause};
 ghost use Rattle.perf_sample.specs.Layout.{has, Fits};
 ghost use Rattle.perf_sample.specs.Range.{IsSample};
 ghost use Rattle.perf_sample.specs.Rows.{PutsIn, TakesRow, TakesRows, TakesHwIndex};
@@ -48,8 +49,7 @@ fn put_in(sample: &mut Sample, place: Place, bytes: &[u8; 8]) -> Result<(), Samp
 fn read_row<S: Source>(source: &mut S, place: Place, sample: &mut Sample) -> Result<(), SampleFault>
     ensures takes { TakesRow place (S.left source.old) (S.left source.new) sample.old sample.new result }
     ensures range { IsSample sample.old → IsSample sample.new }
-    ensures later { S.faults source.old ≤ S.faults source.new }
-    ensures cause { result ≡ Err SampleFault.ReadFault → Rose (S.faults source.old) (S.faults source.new) }
+    ensures cause { HasCause is_read (S.faults source.old) (S.faults source.new) result }
 {
     let bytes = read_place(source, place)?;
     put_in(sample, place, &bytes)
@@ -64,8 +64,7 @@ pub(crate) fn read_rows<S: Source>(
     requires { Fits layout sample.old }
     ensures takes { TakesRows layout (S.left source.old) (S.left source.new) sample.old sample.new result }
     ensures range { IsSample sample.old → IsSample sample.new }
-    ensures later { S.faults source.old ≤ S.faults source.new }
-    ensures cause { result ≡ Err SampleFault.ReadFault → Rose (S.faults source.old) (S.faults source.new) }
+    ensures cause { HasCause is_read (S.faults source.old) (S.faults source.new) result }
 {
     for place in BEFORE_NR {
         if layout.has(place) {
@@ -84,8 +83,7 @@ pub(crate) fn read_hw_index<S: Source>(
     requires { Fits layout sample.old }
     ensures takes { TakesHwIndex layout (S.left source.old) (S.left source.new) sample.old sample.new result }
     ensures range { IsSample sample.old → IsSample sample.new }
-    ensures later { S.faults source.old ≤ S.faults source.new }
-    ensures cause { result ≡ Err SampleFault.ReadFault → Rose (S.faults source.old) (S.faults source.new) }
+    ensures cause { HasCause is_read (S.faults source.old) (S.faults source.new) result }
 {
     if layout.has(Place::HwIndex) {
         read_row(source, Place::HwIndex, sample)?;

@@ -35,6 +35,25 @@ pub(crate) const EVERY_FIELD: [u8; 112] = [
     0x01, 0x00, 0x00, 0x00, 0x01, 0x00, 0x00, 0x00, // flags: bits 0 and 32
 ];
 
+// The same with the hardware index behind the number of branches.
+pub(crate) const EVERY_FIELD_AND_THE_INDEX: [u8; 120] = [
+    0x09, 0x00, 0x00, 0x00, 0x02, 0x01, 0x78, 0x00, // misc 0x102, size 120
+    0x11, 0x00, 0x00, 0x00, 0x00, 0x00, 0x00, 0xA1, // identifier
+    0x12, 0x00, 0x00, 0x00, 0x00, 0x00, 0x00, 0xA2, // ip
+    0x13, 0x00, 0x00, 0xA3, 0x14, 0x00, 0x00, 0xA4, // pid, tid
+    0x15, 0x00, 0x00, 0x00, 0x00, 0x00, 0x00, 0xA5, // time
+    0x16, 0x00, 0x00, 0x00, 0x00, 0x00, 0x00, 0xA6, // addr
+    0x17, 0x00, 0x00, 0x00, 0x00, 0x00, 0x00, 0xA7, // id
+    0x18, 0x00, 0x00, 0x00, 0x00, 0x00, 0x00, 0xA8, // stream_id
+    0x19, 0x00, 0x00, 0xA9, 0x00, 0x00, 0x00, 0x00, // cpu, and its reserved half
+    0x1A, 0x00, 0x00, 0x00, 0x00, 0x00, 0x00, 0xAA, // period
+    0x01, 0x00, 0x00, 0x00, 0x00, 0x00, 0x00, 0x00, // one branch
+    0x1D, 0x00, 0x00, 0x00, 0x00, 0x00, 0x00, 0xAD, // the hardware index
+    0x1B, 0x00, 0x00, 0x00, 0x00, 0x00, 0x00, 0xAB, // from
+    0x1C, 0x00, 0x00, 0x00, 0x00, 0x00, 0x00, 0xAC, // to
+    0x01, 0x00, 0x00, 0x00, 0x01, 0x00, 0x00, 0x00, // flags: bits 0 and 32
+];
+
 // A sample of thread 1 of process 1 in machine mode, without branches.
 fn plain() -> Sample
     ensures { result.branches ≡ [] }
@@ -96,6 +115,100 @@ fn every_field_has_its_place(rt: HostRuntime) -> Result<(), Fail> {
     };
     let out = written(layout, &sample)?;
     assert_eq!(rt; out.as_slice(), EVERY_FIELD.as_slice());
+    let mut indexed = sample;
+    indexed.hw_index = 0xAD00_0000_0000_001D;
+    let layout = layout.with_branch(HW_INDEX).ok_or("a layout")?;
+    let out = written(layout, &indexed)?;
+    assert_eq!(rt; out.as_slice(), EVERY_FIELD_AND_THE_INDEX.as_slice());
+    Ok(())
+}
+
+#[test]
+fn the_index_follows_the_number_of_branches(rt: HostRuntime) -> Result<(), Fail> {
+    let layout = Layout::of(0x803).ok_or("a layout")?;
+    let layout = layout.with_branch(HW_INDEX).ok_or("a layout")?;
+    let mut sample = plain();
+    sample.branches.push(Branch {
+        from: 0x8000_0000,
+        to: 0x8000_0008,
+        flags: 4 << 20,
+    });
+    let one = [
+        0x09, 0, 0, 0, 0x03, 0, 0x40, 0, // size 64
+        0x08, 0, 0, 0x80, 0, 0, 0, 0, // ip
+        0x01, 0, 0, 0, 0x01, 0, 0, 0, // pid, tid
+        0x01, 0, 0, 0, 0, 0, 0, 0, // one branch
+        0, 0, 0, 0, 0, 0, 0, 0, // the hardware index is 0
+        0, 0, 0, 0x80, 0, 0, 0, 0, // from
+        0x08, 0, 0, 0x80, 0, 0, 0, 0, // to
+        0, 0, 0x40, 0, 0, 0, 0, 0, // flags: type call
+    ];
+    assert_eq!(rt; written(layout, &sample)?.as_slice(), one.as_slice());
+    let mut sample = plain();
+    sample.ip = 0x8000_0000;
+    sample.hw_index = u64::MAX;
+    let none = [
+        0x09, 0, 0, 0, 0x03, 0, 0x28, 0, // size 40
+        0, 0, 0, 0x80, 0, 0, 0, 0, // ip
+        0x01, 0, 0, 0, 0x01, 0, 0, 0, // pid, tid
+        0, 0, 0, 0, 0, 0, 0, 0, // no branch
+        0xFF, 0xFF, 0xFF, 0xFF, 0xFF, 0xFF, 0xFF, 0xFF, // the hardware index
+    ];
+    assert_eq!(rt; written(layout, &sample)?.as_slice(), none.as_slice());
+    Ok(())
+}
+
+#[test]
+fn the_longest_sample_has_6240_bytes(rt: HostRuntime) -> Result<(), Fail> {
+    let layout = Layout::of(0x10BCF).ok_or("a layout")?;
+    let layout = layout.with_branch(HW_INDEX).ok_or("a layout")?;
+    let mut sample = plain();
+    for _ in 0..256u16 {
+        assert!(rt; sample.branches.items().len() < 256);
+        sample.branches.push(Branch::default());
+    }
+    assert_eq!(rt; written(layout, &sample)?.len(), 6240);
+    Ok(())
+}
+
+#[test]
+fn a_branch_word_is_0_or_the_hardware_index(rt: HostRuntime) -> Result<(), Fail> {
+    let layout = Layout::of(0x803).ok_or("a layout")?;
+    assert_eq!(rt; layout.branch_bits(), 0);
+    for (bits, is_word) in [
+        (0, true),
+        (0x20000, true),
+        (1, false), // PERF_SAMPLE_BRANCH_USER
+        (8, false), // PERF_SAMPLE_BRANCH_ANY
+        (0x20001, false),
+        (0x40000, false), // PERF_SAMPLE_BRANCH_PRIV_SAVE
+        (0x8000_0000_0002_0000, false),
+    ] {
+        let other = layout.with_branch(bits);
+        assert_eq!(rt; other.is_some(), is_word, "at {bits}");
+        if let Some(other) = other {
+            assert_eq!(rt; other.bits(), 0x803, "at {bits}");
+            assert_eq!(rt; other.branch_bits(), bits, "at {bits}");
+            let back = other.with_branch(0).ok_or("a layout")?;
+            assert_eq!(rt; back, layout, "at {bits}");
+        }
+    }
+    Ok(())
+}
+
+#[test]
+fn an_index_fits_where_the_branch_word_has_it(rt: HostRuntime) -> Result<(), Fail> {
+    let layout = Layout::of(0x803).ok_or("a layout")?;
+    let mut sample = plain();
+    sample.hw_index = 1;
+    assert!(rt; !layout.fits(&sample));
+    assert!(rt;
+        layout
+            .with_branch(HW_INDEX)
+            .ok_or("a layout")?
+            .fits(&sample)
+    );
+    assert!(rt; !layout.with_branch(0).ok_or("a layout")?.fits(&sample));
     Ok(())
 }
 
@@ -136,6 +249,9 @@ fn each_layout_has_its_length(rt: HostRuntime) -> Result<(), Fail> {
             let out = written(layout, &sample)?;
             // The header, eight bytes a field, and the number of branches among them.
             assert_eq!(rt; out.len(), 8 + 8 * bits.count_ones() as usize, "at {bits}");
+            let layout = layout.with_branch(HW_INDEX).ok_or("a layout")?;
+            let out = written(layout, &sample)?;
+            assert_eq!(rt; out.len(), 16 + 8 * bits.count_ones() as usize, "at {bits}");
         }
     }
     // Nine fields may be left out.

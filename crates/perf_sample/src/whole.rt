@@ -1,9 +1,9 @@
 //! A whole sample, read from left to right.
 
 ghost use Rattle.std.specs.Prelude.{◌≡◌, ◌≤◌, IfOk, IfSome};
-ghost use Rattle.ctr_port.specs.Counts.{Rose};
+ghost use Rattle.ctr_port.specs.Counts.{HasCause};
 ghost use Rattle.perf_sample.specs.Range.{IsSample};
-ghost use Rattle.perf_sample.specs.Reading.{TakesSample};
+ghost use Rattle.perf_sample.specs.Reading.{is_read, TakesSample};
 
 use crate::branch::{read_branches, read_nr};
 use crate::faults::SampleFault;
@@ -20,8 +20,7 @@ pub(crate) fn read_sample<S: Source>(
 ) -> Result<Option<Sample>, SampleFault>
     ensures takes { TakesSample layout (S.left source.old) (S.left source.new) result }
     ensures range { IfOk result (λ next. IfSome next IsSample) }
-    ensures later { S.faults source.old ≤ S.faults source.new }
-    ensures cause { result ≡ Err SampleFault.ReadFault → Rose (S.faults source.old) (S.faults source.new) }
+    ensures cause { HasCause is_read (S.faults source.old) (S.faults source.new) result }
 {
     let header = match read_header(source, layout)? {
         Some(header) => header,

@@ -8,6 +8,7 @@ use Rattle.sched_text.specs.declared.schedule.Command.TheVariants as command
 use Rattle.sched_text.specs.declared.faults.Reason.{Reason}
 use Rattle.sched_text.specs.declared.faults.Reason.TheVariants as reason
 use Rattle.sched_text.specs.declared.faults.LineFault.{LineFault}
+use Rattle.sched_text.specs.declared.limits.TheConstants.{MOST_COMMANDS}
 
 abbrev pub is_end : Command → Bool
 is_end command.End = true
@@ -21,7 +22,7 @@ end_at line (b ∷ rest) = refuse (line + 1) reason.Trailing
 -- a command line that 1,048,576 others may stand before; `end` isn't counted
 abbrev pub counted_at : ℕ → ℕ → List ℕ → Command → Result (Command × List ℕ) LineFault
 counted_at line count rest command =
-    if is_end command then end_at line rest else if nat_lt count 1048576 then Ok (command, rest) else refuse line reason.TooMany
+    if is_end command then end_at line rest else if nat_lt count MOST_COMMANDS then Ok (command, rest) else refuse line reason.TooMany
 
 abbrev pub command_row : ℕ → ℕ → List ℕ → Result Command Reason → Result (Command × List ℕ) LineFault
 command_row line count rest (Err why) = refuse line why

@@ -15,6 +15,7 @@ use Rattle.sched_text.specs.declared.faults.Reason.TheVariants as reason
 use Rattle.sched_text.specs.declared.faults.CommandFault.{CommandFault}
 use Rattle.sched_text.specs.declared.faults.ScheduleFault.{ScheduleFault}
 use Rattle.sched_text.specs.declared.faults.ScheduleFault.TheVariants as fault
+use Rattle.sched_text.specs.declared.limits.TheConstants.{WINDOW}
 
 -- accepted, or cut at its end
 abbrev pub IsWholeOrCut : List ℕ → Type 0
@@ -63,12 +64,12 @@ Listened lines text text' hand (Err fault.Memory) = ⊤
 abbrev pub Given : ℕ → ℕ → List ℕ → List ℕ → Type 0
 Given lines count t t' = (cs : List Command) × Gives lines count cs t t'
 
--- header, images and so many commands, none of them `end`, the last of them in this line; and fewer than 4,096 bytes were taken behind it
+-- header, images and so many commands, none of them `end`, the last of them in this line; and fewer bytes than a window has were taken behind it
 abbrev pub IsHalted : Option (List ℕ) → Option (List ℕ) → ℕ → ℕ → Type 0
-IsHalted left left' line count = Of left left' (λ b b'. (lines : ℕ) × (cs : List Command) × (behind : List ℕ) × HasCommands b lines count cs behind × (has_end cs ≡ false) × (line ≡ lines + count) × (length behind < length b' + 4096))
+IsHalted left left' line count = Of left left' (λ b b'. (lines : ℕ) × (cs : List Command) × (behind : List ℕ) × HasCommands b lines count cs behind × (has_end cs ≡ false) × (line ≡ lines + count) × (length behind < length b' + WINDOW))
 
 abbrev pub Halts : ℕ → ℕ → Option (List ℕ) → Option (List ℕ) → List ℕ → ℕ → Result Bool CommandFault → Type 0
-Halts lines most text text' hand line (Ok false) = Of text text' (Given lines most) × (length hand < 4096) × (line ≡ lines + most)
+Halts lines most text text' hand line (Ok false) = Of text text' (Given lines most) × (length hand < WINDOW) × (line ≡ lines + most)
 Halts lines most text text' hand line (Ok true) = ⊤
 Halts lines most text text' hand line (Err f) = ⊤
 

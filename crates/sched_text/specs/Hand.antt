@@ -1,5 +1,5 @@
 -- What reads do to the bytes in hand.
-use Rattle.std.specs.Prelude.{◌≡◌, ℕ, ◌+◌, ◌<◌, List, ◌++◌, length, take, drop, Result, Ok, Err}
+use Rattle.std.specs.Prelude.{◌≡◌, ℕ, ◌+◌, ◌<◌, ◌≤◌, List, ◌++◌, length, take, drop, Result, Ok, Err, ⊤}
 use Rattle.std.specs.declared.option.Option.{Option}
 use Rattle.std.specs.Io.KnownBytes.{Consumes, Keeps, IsAtEnd}
 use Rattle.ctr_port.specs.declared.ends.Got.{Got}
@@ -13,6 +13,12 @@ abbrev pub Fills : Option (List ℕ) → Option (List ℕ) → List ℕ → List
 Fills left left' hand hand' (got.Bytes n) = (piece : List ℕ) × (0 < length piece) × (hand' ≡ hand ++ piece) × Consumes left left' piece
 Fills left left' hand hand' got.End = (hand' ≡ hand) × Keeps left left' × IsAtEnd left'
 Fills left left' hand hand' got.Failed = (hand' ≡ hand) × Keeps left left'
+
+-- a read gave so many bytes at most
+abbrev pub IsAtMost : ℕ → Got → Type 0
+IsAtMost most (got.Bytes n) = n ≤ most
+IsAtMost most got.End = ⊤
+IsAtMost most got.Failed = ⊤
 
 -- what is in hand after a line was looked for
 abbrev pub HasLine : List ℕ → Option (List ℕ) → Result ℕ Stop → Type 0

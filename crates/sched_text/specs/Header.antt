@@ -17,6 +17,7 @@ use Rattle.sched_text.specs.declared.schedule.IrqLine.{IrqLine}
 use Rattle.sched_text.specs.declared.faults.Reason.{Reason}
 use Rattle.sched_text.specs.declared.faults.Reason.TheVariants as reason
 use Rattle.sched_text.specs.declared.faults.LineFault.{LineFault}
+use Rattle.sched_text.specs.declared.limits.TheConstants.{MOST_TASKS}
 
 -- before the first line; the number of harts and the layout are overwritten by their lines, and the branch word by its line, if
 -- there is one
@@ -42,7 +43,7 @@ branch_step p line = then_with (branch_of line) (λ bits. Ok (record p { branch 
 
 abbrev pub task_step : Progress → List ℕ → Result Progress Reason
 task_step p line = then_with (task_of line) (λ task.
-    if nat_lt (length p.tasks) 64 then Ok (record p { tasks = p.tasks ++ task ∷ []; place = place.Tasks }) else Err reason.TooMany)
+    if nat_lt (length p.tasks) MOST_TASKS then Ok (record p { tasks = p.tasks ++ task ∷ []; place = place.Tasks }) else Err reason.TooMany)
 
 -- a line that is judged by those of its task
 abbrev pub irq_judged : Progress → IrqLine → Option Reason → Result Progress Reason
@@ -106,7 +107,7 @@ pub record Sound (p : Progress) : Type 0 where
   pub harts : p.harts ≤ 16
   pub layout : IsLayout p.layout
   pub branch : IsBranchWord p.branch
-  pub few : length p.tasks ≤ 64
+  pub few : length p.tasks ≤ MOST_TASKS
   pub tasks : All IsTask p.tasks
   pub irqs : All (IsIrq (length p.tasks)) p.irqs
   pub order : AllFollow p.irqs

@@ -13,6 +13,7 @@ use Rattle.sched_text.specs.declared.heading.Progress.{Progress}
 use Rattle.sched_text.specs.declared.schedule.Header.{Header}
 use Rattle.sched_text.specs.declared.faults.ScheduleFault.{ScheduleFault}
 use Rattle.sched_text.specs.declared.faults.ScheduleFault.TheVariants as fault
+use Rattle.sched_text.specs.declared.limits.TheConstants.{MOST_TASKS}
 
 -- one more line is read, or refused, as defined. After a failed read no whole line is in hand, and nothing was passed over
 abbrev pub OneLine : ℕ → Progress → Progress → Option (List ℕ) → Option (List ℕ) → List ℕ → Result (Unit {0}) ScheduleFault → Type 0
@@ -57,7 +58,7 @@ pub record IsHeader (h : Header) : Type 0 where
   pub layout : IsLayout h.layout
   pub branch : IsBranchWord h.branch
   pub one_task : 1 ≤ length h.tasks
-  pub few : length h.tasks ≤ 64
+  pub few : length h.tasks ≤ MOST_TASKS
   pub tasks : All IsTask h.tasks
   pub irqs : All (IsIrq (length h.tasks)) h.irqs
   pub order : AllFollow h.irqs

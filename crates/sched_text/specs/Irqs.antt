@@ -5,6 +5,7 @@ use Rattle.sched_text.specs.Rows.{is_cause}
 use Rattle.sched_text.specs.declared.schedule.IrqLine.{IrqLine}
 use Rattle.sched_text.specs.declared.faults.Reason.{Reason}
 use Rattle.sched_text.specs.declared.faults.Reason.TheVariants as reason
+use Rattle.sched_text.specs.declared.limits.TheConstants.{MOST_IRQS, LAST_IRQ}
 
 -- those of one task
 abbrev pub lines_of_task : ℕ → List IrqLine → List IrqLine
@@ -24,7 +25,7 @@ order_refusal (Some before) irq = if is_early before irq then Some reason.IrqOrd
 
 -- why a line may not follow these of its task: there are 1,024, or it is early after the last
 abbrev pub refusal_after : List IrqLine → IrqLine → Option Reason
-refusal_after lines irq = if nat_le 1024 (length lines) then Some reason.TooMany else order_refusal (last lines) irq
+refusal_after lines irq = if nat_le MOST_IRQS (length lines) then Some reason.TooMany else order_refusal (last lines) irq
 
 -- why a line may not follow those before it
 abbrev pub irq_refusal : List IrqLine → IrqLine → Option Reason
@@ -33,7 +34,7 @@ irq_refusal before irq = refusal_after (lines_of_task irq.task before) irq
 -- a line of one of so many tasks, with its numbers in their ranges
 pub record IsIrq (tasks : ℕ) (irq : IrqLine) : Type 0 where
   pub task : irq.task < tasks
-  pub step : irq.step ≤ 1000000000000000
+  pub step : irq.step ≤ LAST_IRQ
   pub cause : is_cause irq.cause ≡ true
 
 -- each of the lines may follow those before it

@@ -1,6 +1,7 @@
 -- The lines of a text and the words of a line. A line ends with one LF, and words are parted by one space.
 use Rattle.std.specs.Prelude.{ℕ, zero, suc, Bool, if◌then◌else◌, eqb, List, [], ◌∷◌, get_or}
 use Rattle.std.specs.List.{slice_split}
+use Rattle.sched_text.specs.declared.limits.TheConstants.{LINE_LIMIT}
 
 -- what a text begins with
 pub data LineCut : Type 0 where
@@ -24,7 +25,7 @@ line_within (suc room) [] = Open
 line_within (suc room) (b ∷ text) = if eqb b 10 then Line [] text else put_front b (line_within room text)
 
 abbrev pub line_at : List ℕ → LineCut
-line_at text = line_within 256 text
+line_at text = line_within LINE_LIMIT text
 
 abbrev pub is_space : ℕ → Bool
 is_space b = eqb b 32

@@ -5,6 +5,7 @@ use Rattle.sched_text.specs.declared.irqs.Mark.{Mark}
 use Rattle.sched_text.specs.declared.schedule.IrqLine.{IrqLine}
 use Rattle.sched_text.specs.declared.faults.Reason.{Reason}
 use Rattle.sched_text.specs.declared.faults.Reason.TheVariants as reason
+use Rattle.sched_text.specs.declared.limits.TheConstants.{MOST_TASKS, MOST_IRQS}
 
 -- how many irq lines a task has, with the step and the cause of the last
 abbrev pub no_mark : Mark
@@ -22,13 +23,13 @@ mark_of task irqs = fold (note task) no_mark irqs
 -- why a line may not follow those of its task, by their mark
 abbrev pub mark_refusal : Mark → IrqLine → Option Reason
 mark_refusal m irq =
-    if nat_le 1024 m.count then Some reason.TooMany
+    if nat_le MOST_IRQS m.count then Some reason.TooMany
     else if nat_lt 0 m.count && (nat_lt irq.step m.step || nat_eq irq.step m.step && nat_le irq.cause m.cause) then Some reason.IrqOrder
     else None
 
 -- the marks of the 64 tasks that there can be
 pub record Marked (marks : List Mark) (irqs : List IrqLine) : Type 0 where
-  pub tasks : length marks ≡ 64
-  pub each : (task : ℕ) → task < 64 → get_or marks task no_mark ≡ mark_of task irqs
-  pub few : All (λ m. m.count ≤ 1024) marks
+  pub tasks : length marks ≡ MOST_TASKS
+  pub each : (task : ℕ) → task < MOST_TASKS → get_or marks task no_mark ≡ mark_of task irqs
+  pub few : All (λ m. m.count ≤ MOST_IRQS) marks
   pub all : length irqs ≡ sum_by (λ m. m.count) marks

@@ -13,6 +13,7 @@ use Rattle.sched_text.specs.declared.rows.Version.TheVariants as version
 use Rattle.sched_text.specs.declared.schedule.TaskLine.{TaskLine}
 use Rattle.sched_text.specs.declared.schedule.Command.{Command}
 use Rattle.sched_text.specs.declared.schedule.Command.TheVariants as command
+use Rattle.sched_text.specs.declared.limits.TheConstants.{MOST_MEMORY, MOST_STEPS, LAST_IRQ}
 
 -- the line has this first word, and so many words
 abbrev pub has_form : List ℕ → List ℕ → ℕ → Bool
@@ -68,8 +69,8 @@ branch_of line =
 -- the ranges of a task line
 abbrev pub task_in_range : TaskNumbers → Bool
 task_in_range n =
-    nat_le 4 n.mem && nat_le n.mem 1048576 && nat_eq (n.mem % 4) 0 && nat_le n.image n.mem && nat_le n.depth 4
-    && nat_le n.mctrctl (2 ^ 64 - 1) && nat_le n.vsctrctl (2 ^ 64 - 1) && nat_le n.period 1000000000
+    nat_le 4 n.mem && nat_le n.mem MOST_MEMORY && nat_eq (n.mem % 4) 0 && nat_le n.image n.mem && nat_le n.depth 4
+    && nat_le n.mctrctl (2 ^ 64 - 1) && nat_le n.vsctrctl (2 ^ 64 - 1) && nat_le n.period MOST_STEPS
 
 abbrev pub task_numbers : List ℕ → Result TaskNumbers Reason
 task_numbers line =
@@ -90,11 +91,11 @@ task_of line =
 -- a task line whose numbers are in their ranges
 pub record IsTask (t : TaskLine) : Type 0 where
   pub some : 4 ≤ t.mem
-  pub most : t.mem ≤ 1048576
+  pub most : t.mem ≤ MOST_MEMORY
   pub words : t.mem % 4 ≡ 0
   pub image : t.image ≤ t.mem
   pub depth : t.depth ≤ 4
-  pub period : t.period ≤ 1000000000
+  pub period : t.period ≤ MOST_STEPS
 
 -- the interrupts (RISC-V Privileged Architecture, mip)
 abbrev pub is_cause : ℕ → Bool
@@ -107,7 +108,7 @@ abbrev pub irq_of : List ℕ → Result IrqWords Reason
 irq_of line =
     if has_form line (codes "irq") 4 then
     then_with (decimal line 1) (λ task. then_with (decimal line 2) (λ step. then_with (decimal line 3) (λ cause.
-    if nat_le step 1000000000000000 && is_cause cause then Ok (record { task = kept task; step = step; cause = cause })
+    if nat_le step LAST_IRQ && is_cause cause then Ok (record { task = kept task; step = step; cause = cause })
     else Err reason.Range)))
     else Err reason.NotWord
 
@@ -115,11 +116,11 @@ irq_of line =
 abbrev pub run_of : List ℕ → Result Command Reason
 run_of line =
     then_with (decimal line 1) (λ hart. then_with (decimal line 2) (λ task. then_with (decimal line 3) (λ steps.
-    if nat_le steps 1000000000 then Ok (command.Run (kept hart) (kept task) steps) else Err reason.Range)))
+    if nat_le steps MOST_STEPS then Ok (command.Run (kept hart) (kept task) steps) else Err reason.Range)))
 
 -- a command whose number of steps is in its range
 abbrev pub IsCommand : Command → Type 0
-IsCommand (command.Run hart task steps) = steps ≤ 1000000000
+IsCommand (command.Run hart task steps) = steps ≤ MOST_STEPS
 IsCommand (command.Sample task) = ⊤
 IsCommand (command.Evict hart) = ⊤
 IsCommand command.End = ⊤

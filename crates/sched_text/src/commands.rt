@@ -8,14 +8,12 @@ ghost use Rattle.sched_text.specs.Rows.{IsCommand};
 ghost use Rattle.sched_text.specs.Reader.{Shows, Finishes, ended};
 
 use crate::faults::{CommandFault, LineFault, Reason};
+use crate::limits::{MOST_COMMANDS, WINDOW};
 use crate::reading::{Stop, read_line};
 use crate::rows::command_row;
 use crate::schedule::Command;
 use crate::window::Window;
 use ctr_port::{Got, Source};
-
-/// How many command lines there may be; `end` isn't counted.
-const MOST: u32 = 1_048_576;
 
 /// Whether a command is the last.
 pub(crate) fn is_end(command: &Command) -> bool
@@ -31,7 +29,7 @@ fn finish<S: Source>(window: &mut Window, source: &mut S, line: u32) -> Result<(
     ensures later { S.faults source.old ≤ S.faults source.new }
     ensures cause { result ≡ Err CommandFault.ReadFault → Rose (S.faults source.old) (S.faults source.new) }
     ensures still { 0 < length window.old → source.new ≡ source.old }
-    ensures hand { length window.new ≤ 4096 }
+    ensures hand { length window.new ≤ WINDOW }
     ensures none { IfOk result (λ _. window.new ≡ []) }
 {
     if window.bytes().len() > 0 {
@@ -40,7 +38,7 @@ fn finish<S: Source>(window: &mut Window, source: &mut S, line: u32) -> Result<(
             reason: Reason::Trailing,
         }));
     }
-    match window.fill(source) {
+    match window.fill(source, WINDOW) {
         Got::Bytes(_) => Err(CommandFault::Line(LineFault {
             line: line + 1,
             reason: Reason::Trailing,
@@ -72,11 +70,11 @@ pub(crate) fn next_command<S: Source>(
     ensures cause { result ≡ Err CommandFault.ReadFault → Rose (S.faults source.old) (S.faults source.new) }
     ensures still { needs_read window.old ≡ false → source.new ≡ source.old }
     ensures range { IfOk result IsCommand }
-    ensures hand { length window.new ≤ 4096 }
-    ensures fewer { IfOk result (λ _. length window.new < 4096) }
-    ensures few { IfOk result (λ command. is_end command ≡ false → commands < 1048576) }
+    ensures hand { length window.new ≤ WINDOW }
+    ensures fewer { IfOk result (λ _. length window.new < WINDOW) }
+    ensures few { IfOk result (λ command. is_end command ≡ false → commands < MOST_COMMANDS) }
 {
-    let count = match read_line(window, source) {
+    let count = match read_line(window, source, WINDOW) {
         Ok(count) => count,
         Err(stop) => match stop {
             Stop::Long => {
@@ -103,7 +101,7 @@ pub(crate) fn next_command<S: Source>(
     if is_end(&command) {
         return last(finish(window, source, line));
     }
-    if commands >= MOST {
+    if commands >= MOST_COMMANDS {
         return Err(CommandFault::Line(LineFault {
             line,
             reason: Reason::TooMany,

@@ -3,8 +3,7 @@
 ghost use Rattle.std.specs.Prelude.{◌≡◌, ◌<◌, length};
 ghost use Rattle.sched_text.specs.Cuts.{Sees};
 
-/// How many bytes may come without a line feed: a line has 255 at most.
-const LIMIT: usize = 256;
+use crate::limits::LINE_LIMIT;
 
 /// What the bytes in hand begin with.
 #[derive(Clone, Copy)]
@@ -19,9 +18,9 @@ pub(crate) enum Seen {
 
 pub(crate) fn line_in(hand: &[u8]) -> Seen
     ensures sees { Sees hand.now result }
-    ensures short { result ≡ Seen.Open → length hand.now < 256 }
+    ensures short { result ≡ Seen.Open → length hand.now < LINE_LIMIT }
 {
-    for at in 0..LIMIT {
+    for at in 0..LINE_LIMIT {
         if at == hand.len() {
             return Seen::Open;
         }

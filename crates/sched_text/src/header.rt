@@ -8,14 +8,12 @@ ghost use Rattle.sched_text.specs.Heads.{OneLine, Heads, IsHeader};
 
 use crate::faults::{LineFault, Reason, ScheduleFault};
 use crate::heading::{Place, Progress, StepFault};
+use crate::limits::{HEADER_LINES, WINDOW};
 use crate::reading::{Stop, read_line};
 use crate::schedule::Header;
 use crate::window::Window;
 use ctr_port::Source;
 use std::alloc::Global;
-
-/// No header has more lines: five, those of 64 tasks, 1,024 irq lines of each, and one.
-pub(crate) const HEADER_LINES: u32 = 65_606;
 
 // One more line of the header, which has this number.
 fn one_line<S: Source>(
@@ -30,11 +28,11 @@ fn one_line<S: Source>(
     ensures count { IfOk result (λ _. lines_of progress.old < lines_of progress.new) }
     ensures few { IfOk result (λ _. length progress.new.irqs ≤ 65537) }
     ensures sound { IfOk result (λ _. Sound progress.new) }
-    ensures hand { length window.new ≤ 4096 }
+    ensures hand { length window.new ≤ WINDOW }
     ensures later { S.faults source.old ≤ S.faults source.new }
     ensures cause { result ≡ Err ScheduleFault.ReadFault → Rose (S.faults source.old) (S.faults source.new) }
 {
-    let count = match read_line(window, source) {
+    let count = match read_line(window, source, WINDOW) {
         Ok(count) => count,
         Err(stop) => match stop {
             Stop::Long => {
@@ -78,11 +76,11 @@ pub(crate) fn read_header<S: Source>(
     line: &mut u32,
 ) -> Result<Header, ScheduleFault>
     requires line { line.old ≡ 0 }
-    requires hand { length window.old ≤ 4096 }
+    requires hand { length window.old ≤ WINDOW }
     ensures heads { Heads line.new (text_of window.old (S.left source.old)) (text_of window.new (S.left source.new)) window.new result }
     ensures sound { IfOk result IsHeader }
     ensures most { line.new ≤ HEADER_LINES }
-    ensures hand { length window.new ≤ 4096 }
+    ensures hand { length window.new ≤ WINDOW }
     ensures later { S.faults source.old ≤ S.faults source.new }
     ensures cause { result ≡ Err ScheduleFault.ReadFault → Rose (S.faults source.old) (S.faults source.new) }
 {

@@ -5,6 +5,7 @@ ghost use Rattle.sched_text.specs.Header.{step, after_layout, task_step, irq_ste
 
 use crate::faults::Reason;
 use crate::irqs::Irqs;
+use crate::limits::MOST_TASKS;
 use crate::lists::TaskLines;
 use crate::rows::{
     IMAGES, IRQ, TASK, Version, branch_row, harts_row, has_form, irq_row, layout_row, task_row,
@@ -105,7 +106,7 @@ impl Progress {
         ensures sound { IfOk result (λ _. Sound self.new) }
     {
         let task = task_row(line)?;
-        if self.tasks.items().len() >= 64 {
+        if self.tasks.items().len() >= MOST_TASKS {
             return Err(StepFault::Refused(Reason::TooMany));
         }
         self.tasks.push(task)?;

@@ -6,6 +6,7 @@ ghost use Rattle.ctr_port.specs.InHand.{text_of};
 ghost use Rattle.sched_text.specs.Images.{Images, image_at};
 
 use crate::faults::{LineFault, Reason, ScheduleFault};
+use crate::limits::WINDOW;
 use crate::lists::Image;
 use crate::window::Window;
 use ctr_port::{Got, NoMemory, Source};
@@ -15,7 +16,7 @@ use std::alloc::Global;
 fn take_front(window: &mut Window, image: &mut Image, len: usize) -> Result<(), NoMemory>
     requires { length image.old ≤ len }
     ensures image { OnOk result (image.new ≡ image.old ++ take (min (len - length image.old) (length window.old)) window.old) }
-    ensures hand { length window.new ≤ 4096 }
+    ensures hand { length window.new ≤ WINDOW }
     ensures window { OnOk result (window.new ≡ drop (min (len - length image.old) (length window.old)) window.old) }
 {
     let count = (len - image.items().len()).min(window.bytes().len());
@@ -35,7 +36,7 @@ pub(crate) fn read_image<S: Source>(
     ensures images { Images line len (text_of window.old (S.left source.old)) (text_of window.new (S.left source.new)) window.new result }
     ensures later { S.faults source.old ≤ S.faults source.new }
     ensures cause { result ≡ Err ScheduleFault.ReadFault → Rose (S.faults source.old) (S.faults source.new) }
-    ensures hand { length window.new ≤ 4096 }
+    ensures hand { length window.new ≤ WINDOW }
     ensures size { IfOk result (λ image. length image ≡ len) }
     ensures still { len ≤ length window.old → source.new ≡ source.old }
 {
@@ -46,7 +47,7 @@ pub(crate) fn read_image<S: Source>(
         Err(NoMemory) => return Err(ScheduleFault::Memory),
     }
     while image.items().len() < wanted {
-        match window.fill(source) {
+        match window.fill(source, WINDOW) {
             Got::Bytes(_) => {}
             Got::End => {
                 return Err(ScheduleFault::Line(LineFault {

@@ -5,14 +5,12 @@ ghost use Rattle.sched_text.specs.Irqs.{irq_refusal};
 ghost use Rattle.sched_text.specs.Marks.{mark_of, mark_refusal};
 
 use crate::faults::Reason;
+use crate::limits::{MOST_IRQS, MOST_TASKS};
 use crate::lists::IrqLines;
 use crate::schedule::IrqLine;
 use ctr_port::NoMemory;
 use std::alloc::Global;
 use std::marker::Model;
-
-/// How many irq lines a task may have.
-const MOST: u16 = 1024;
 
 /// What the irq lines of a task so far come to.
 #[derive(Clone, Copy)]
@@ -29,7 +27,7 @@ pub(crate) struct Mark {
 fn mark_refusal(mark: Mark, irq: IrqLine) -> Option<Reason>
     ensures { result ≡ mark_refusal mark irq }
 {
-    if mark.count >= MOST {
+    if mark.count >= MOST_IRQS {
         return Some(Reason::TooMany);
     }
     if mark.count > 0
@@ -44,7 +42,7 @@ fn mark_refusal(mark: Mark, irq: IrqLine) -> Option<Reason>
 #[derive(Drop)]
 pub(crate) struct Irqs {
     list: IrqLines,
-    marks: [Mark; 64],
+    marks: [Mark; MOST_TASKS],
 }
 
 impl Model for Irqs {
@@ -69,14 +67,14 @@ impl Irqs {
                 count: 0,
                 step: 0,
                 cause: 0,
-            }; 64],
+            }; MOST_TASKS],
         }
     }
 
     /// Why a line may not follow those that are here, if so. It looks at one mark, however many lines there are.
     #[tactic(auto, using(crate::proofs::MarkLaws::marked_few))]
     pub(crate) fn refusal(&self, irq: IrqLine) -> Option<Reason>
-        requires { irq.task < 64 }
+        requires { irq.task < MOST_TASKS }
         ensures refusal { result ≡ irq_refusal self.now irq }
         ensures mark { result ≡ mark_refusal (mark_of irq.task self.now) irq }
         ensures few { length self.now ≤ 65536 }
@@ -86,7 +84,7 @@ impl Irqs {
 
     /// Adds a line last.
     pub(crate) fn push(&mut self, irq: IrqLine) -> Result<(), NoMemory>
-        requires task { irq.task < 64 }
+        requires task { irq.task < MOST_TASKS }
         requires follows { mark_refusal (mark_of irq.task self.old) irq ≡ None }
         ensures { OnOk result (self.new ≡ self.old ++ irq ∷ []) }
     {

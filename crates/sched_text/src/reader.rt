@@ -13,6 +13,7 @@ use crate::commands::{is_end, next_command};
 use crate::faults::{CommandFault, ScheduleFault};
 use crate::header::read_header;
 use crate::imaging::read_image;
+use crate::limits::{HEADER_LINES, MOST_COMMANDS, WINDOW};
 use crate::lists::Image;
 use crate::schedule::{Command, Header};
 use crate::window::Window;
@@ -34,13 +35,13 @@ pub struct ScheduleReader {
 impl Model for ScheduleReader {
     ghost use Rattle.std.specs.Prelude.{◌≡◌, ◌≤◌, ◌+◌, None, false, length};
     ghost use Rattle.sched_text.specs.Reader.{Reader};
-    ghost use Rattle.sched_text.specs.declared.header.TheConstants.{HEADER_LINES};
+    ghost use Rattle.sched_text.specs.declared.limits.TheConstants.{WINDOW, HEADER_LINES, MOST_COMMANDS};
 
     ghost Value = { Reader };
 
     ghost view = { λ r. record { refused = r.refused; line = r.line; commands = r.commands; ended = r.ended; hand = r.window } };
 
-    ghost invariant = { λ r. (length r.window ≤ 4096) × (r.commands ≤ 1048576) × (r.line ≤ HEADER_LINES + 1 + r.commands) × (r.refused ≡ None → r.ended ≡ false → r.line ≤ HEADER_LINES + r.commands) };
+    ghost invariant = { λ r. (length r.window ≤ WINDOW) × (r.commands ≤ MOST_COMMANDS) × (r.line ≤ HEADER_LINES + 1 + r.commands) × (r.refused ≡ None → r.ended ≡ false → r.line ≤ HEADER_LINES + r.commands) };
 }
 
 impl ScheduleReader {
@@ -73,7 +74,7 @@ impl ScheduleReader {
         requires { self.old ≡ fresh }
         ensures heads { Heads self.new.line (text_of self.old.hand (S.left source.old)) (text_of self.new.hand (S.left source.new)) self.new.hand result }
         ensures sound { IfOk result IsHeader }
-        ensures hand { length self.new.hand ≤ 4096 }
+        ensures hand { length self.new.hand ≤ WINDOW }
         ensures later { S.faults source.old ≤ S.faults source.new }
         ensures cause { result ≡ Err ScheduleFault.ReadFault → Rose (S.faults source.old) (S.faults source.new) }
         ensures refused { self.new.refused ≡ refusal_of result }
@@ -98,7 +99,7 @@ impl ScheduleReader {
         requires { self.old.refused ≢ Some ScheduleFault.Memory }
         ensures images { self.old.refused ≡ None → Images self.old.line len (text_of self.old.hand (S.left source.old)) (text_of self.new.hand (S.left source.new)) self.new.hand result }
         ensures size { IfOk result (λ image. length image ≡ len) }
-        ensures hand { length self.new.hand ≤ 4096 }
+        ensures hand { length self.new.hand ≤ WINDOW }
         ensures later { S.faults source.old ≤ S.faults source.new }
         ensures cause { self.old.refused ≡ None → result ≡ Err ScheduleFault.ReadFault → Rose (S.faults source.old) (S.faults source.new) }
         ensures still { len ≤ length self.old.hand → source.new ≡ source.old }
@@ -124,9 +125,9 @@ impl ScheduleReader {
         requires goes_on { self.old.refused ≡ None → self.old.ended ≡ false }
         ensures shows { self.old.refused ≡ None → Shows (command_at (self.old.line + 1) self.old.commands) (text_of self.old.hand (S.left source.old)) (text_of self.new.hand (S.left source.new)) self.new.hand result }
         ensures range { IfOk result IsCommand }
-        ensures most { self.new.commands ≤ 1048576 }
-        ensures hand { length self.new.hand ≤ 4096 }
-        ensures fewer { IfOk result (λ _. length self.new.hand < 4096) }
+        ensures most { self.new.commands ≤ MOST_COMMANDS }
+        ensures hand { length self.new.hand ≤ WINDOW }
+        ensures fewer { IfOk result (λ _. length self.new.hand < WINDOW) }
         ensures later { S.faults source.old ≤ S.faults source.new }
         ensures cause { self.old.refused ≡ None → result ≡ Err CommandFault.ReadFault → Rose (S.faults source.old) (S.faults source.new) }
         ensures still { needs_read self.old.hand ≡ false → source.new ≡ source.old }

@@ -1,6 +1,6 @@
 //! One line, read as far as it goes.
 
-ghost use Rattle.std.specs.Prelude.{◌≡◌, ◌≤◌, false, length};
+ghost use Rattle.std.specs.Prelude.{◌≡◌, ◌≤◌, ◌<◌, false, length};
 ghost use Rattle.ctr_port.specs.Counts.{Rose};
 ghost use Rattle.ctr_port.specs.InHand.{Same};
 ghost use Rattle.sched_text.specs.Lines.{line_at};
@@ -8,6 +8,7 @@ ghost use Rattle.sched_text.specs.Cuts.{is_open};
 ghost use Rattle.sched_text.specs.Hand.{HasLine};
 
 use crate::cutting::{Seen, line_in};
+use crate::limits::WINDOW;
 use crate::window::Window;
 use ctr_port::{Got, Source};
 
@@ -22,13 +23,19 @@ pub(crate) enum Stop {
     Failed,
 }
 
-/// Reads until a line is in hand, and answers how many bytes it has. It stays in hand, with its line feed.
+/// Reads until a line is in hand, at most so many bytes at once, and answers how many bytes it has. It stays in hand, with its
+/// line feed.
 #[tactic(auto, using(ctr_port::proofs::InHand::same_self, ctr_port::proofs::InHand::same_given, ctr_port::proofs::InHand::same_kept))]
-pub(crate) fn read_line<S: Source>(window: &mut Window, source: &mut S) -> Result<usize, Stop>
+pub(crate) fn read_line<S: Source>(
+    window: &mut Window,
+    source: &mut S,
+    most: usize,
+) -> Result<usize, Stop>
+    requires some { 0 < most }
     ensures same { Same window.old (S.left source.old) window.new (S.left source.new) }
     ensures line { HasLine window.new (S.left source.new) result }
     ensures later { S.faults source.old ≤ S.faults source.new }
-    ensures hand { length window.new ≤ 4096 }
+    ensures hand { length window.new ≤ WINDOW }
     ensures cause { result ≡ Err Stop.Failed → Rose (S.faults source.old) (S.faults source.new) }
     ensures still { is_open (line_at window.old) ≡ false → (window.new ≡ window.old) × (source.new ≡ source.old) }
 {
@@ -38,7 +45,7 @@ pub(crate) fn read_line<S: Source>(window: &mut Window, source: &mut S) -> Resul
             Seen::Long => return Err(Stop::Long),
             Seen::Open => {}
         }
-        match window.fill(source) {
+        match window.fill(source, most) {
             Got::Bytes(_) => {}
             Got::End => return Err(Stop::Cut),
             Got::Failed => return Err(Stop::Failed),

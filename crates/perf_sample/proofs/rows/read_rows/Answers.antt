@@ -36,7 +36,7 @@ loop-place-preserved g c =
             misc = kept.misc ∙ done.misc;
             branches = kept.branches ∙ done.branches;
             range = λ is. w.in_ok-read_row.ensures.range (done.range is);
-            later = omega (arith, done.later, w.in_ok-read_row.ensures.later);
+            later = omega (arith, done.later, w.in_ok-read_row.ensures.cause);
           })
       | else-has w ↦
           let off = sym c.has.ensures ∙ w.if-has.false in

@@ -1,4 +1,4 @@
-use Rattle.std.proofs.Common.{◌≡◌, ◌++◌, ℕ, ◌<◌, ◌^◌, List, [], ◌∷◌, map, arith, rules, refl, sym, subst, ap, Ok}
+use Rattle.std.proofs.Common.{◌++◌, ℕ, ◌<◌, ◌^◌, [], ◌∷◌, map, arith, rules, sym, subst, Ok}
 use Rattle.std.proofs.lemmas.Result.{err_from_is_err_and}
 use Rattle.std.specs.Io.KnownBytes.{Consumes}
 use Rattle.std.specs.List.{flat_map}

@@ -1,5 +1,6 @@
 use Rattle.std.proofs.Common.{◌≡◌, ◌≤◌, ◌-◌, length, Ok}
 use Rattle.ctr_port.specs.InHand.{text_of, Of}
+use Rattle.sched_text.specs.declared.limits.TheConstants.{WINDOW, HEADER_LINES}
 use Rattle.sched_text.specs.Header.{after, lines_of, Sound}
 use Rattle.sched_text.proofs.header.read_header.Given as goal
 
@@ -9,8 +10,8 @@ invariant-loop-line g l =
     × (l.line ≤ lines_of l.progress)
     × Sound l.progress
     × (length l.progress.irqs ≤ 65537)
-    × (length l.window ≤ 4096)
+    × (length l.window ≤ WINDOW)
     × (g.S.Source.faults l.fn.source ≤ g.S.Source.faults l.source)
 
 abbrev pub decreases-loop-line : goal.decreases-loop-line
-decreases-loop-line g l = 65606 - lines_of l.progress
+decreases-loop-line g l = HEADER_LINES - lines_of l.progress

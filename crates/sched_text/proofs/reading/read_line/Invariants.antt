@@ -1,5 +1,6 @@
 use Rattle.std.proofs.Common.{◌≡◌, ◌≤◌, ◌-◌, length, false}
 use Rattle.ctr_port.specs.InHand.{Same}
+use Rattle.sched_text.specs.declared.limits.TheConstants.{WINDOW}
 use Rattle.sched_text.specs.Lines.{line_at}
 use Rattle.sched_text.specs.Cuts.{is_open}
 use Rattle.sched_text.proofs.reading.read_line.Given as goal
@@ -11,4 +12,4 @@ invariant-loop-count g l =
     × (is_open (line_at l.fn.window) ≡ false → (l.window ≡ l.fn.window) × (l.source ≡ l.fn.source))
 
 abbrev pub decreases-loop-count : goal.decreases-loop-count
-decreases-loop-count g l = 4096 - length l.window
+decreases-loop-count g l = WINDOW - length l.window

@@ -1,4 +1,4 @@
-use Rattle.std.proofs.Common.{arith, rules}
+use Rattle.std.proofs.Common.{rules}
 use Rattle.ctr_port.proofs.Laws.{given_next}
 use Rattle.ctr_port.proofs.memory_source.MemSourceSource.read.Goals as goal
 
