@@ -11,8 +11,8 @@ use ctr_buffer::Slot;
 use ctr_csrs::Mode;
 use ctr_port::{Sink, WriteFault, write_whole};
 use perf_sample::{
-    Branch, Branches, Buffer, Layout, MISC_GUEST_KERNEL, MISC_GUEST_USER, MISC_HYPERVISOR, MISC_KERNEL,
-    MISC_USER, Sample, encode,
+    Branch, Branches, Buffer, Layout, MISC_GUEST_KERNEL, MISC_GUEST_USER, MISC_HYPERVISOR,
+    MISC_KERNEL, MISC_USER, Sample, encode,
 };
 use rv_hart::{Hart, Store};
 use task_switch::{Slots, read_stack};

@@ -1,12 +1,10 @@
 -- What accesses and a monitor's writes keep of the facts of units and registers: one lemma a function of the definitions.
-use Rattle.std.proofs.Common.{ℕ, ◌≡◌, ◌+◌, ◌-◌, ◌*◌, ◌/◌, ◌%◌, ◌^◌, ◌<◌, ◌≤◌, Bool, true, false, cond, nat_eq, nat_lt, List, [], ◌∷◌, Option, Some, None, Result, Ok, Err, bit_and, bit_or, arith, lit<, lit≤, refl}
+use Rattle.std.proofs.Common.{ℕ, ◌≡◌, ◌-◌, ◌%◌, ◌^◌, ◌<◌, ◌≤◌, Bool, true, false, cond, nat_eq, nat_lt, List, [], ◌∷◌, Option, Some, None, Result, Ok, Err, bit_and, arith, lit<, lit≤, refl}
 use Rattle.std.specs.Option.{IfSome}
-use Rattle.std.specs.List.{All}
 use Rattle.std.proofs.lemmas.Bool.{cond_both, ltb-true, eqb-false}
 use Rattle.ctr_bits.specs.Field.{field_of}
 use Rattle.ctr_csrs.specs.RegisterLaws.{least_entries}
 use Rattle.std.proofs.lemmas.Nat.{and_le_l, and_le_r, and_mask, or_lt, mod_below}
-use Rattle.ctr_bits.specs.Mask.{merged}
 use Rattle.ctr_bits.specs.MaskBits.{mask_twice, merged_stays_within}
 use Rattle.ctr_csrs.specs.ControlFigure.{m_mask, s_mask}
 use Rattle.ctr_csrs.specs.declared.depth.Depth.{Depth}
@@ -19,8 +17,7 @@ use Rattle.ctr_buffer.specs.declared.event.Event.TheVariants.{Turn, SetDepth, Po
 use Rattle.ctr_buffer.specs.declared.slot.Part.{Part}
 use Rattle.ctr_buffer.specs.declared.slot.Part.TheVariants as parts
 use Rattle.ctr_buffer.specs.Entry.{Entry, FitsPart, IsEntry, part_of, zero_entry}
-use Rattle.ctr_buffer.specs.History.{after}
-use Rattle.ctr_buffer.specs.Stack.{Stack, size_of, entry_at}
+use Rattle.ctr_buffer.specs.Stack.{Stack, size_of}
 use Rattle.ctr_buffer.specs.Facts.{IsBuffer, IsEvent}
 use Rattle.ctr_buffer.specs.FactLemmas.{zero_is, item_or, buffers_stay}
 use Rattle.guest_modes.specs.declared.gating.CsrFault.{CsrFault}
@@ -35,9 +32,9 @@ use Rattle.indirect_regs.specs.declared.port.PortReg.{PortReg}
 use Rattle.indirect_regs.specs.declared.port.PortReg.TheVariants.{Mctrctl, Vsctrctl, Depth as Depths, Status, Select, From, To, Kind}
 use Rattle.indirect_regs.specs.Unit.{UnitState, HasControls, IsUnit, after_any, CanTakeAny}
 use Rattle.indirect_regs.specs.Ports.{read, part_kept, entry_named, number_named, names_entry, depth_written, part_written, event_of, changed, written}
-use Rattle.indirect_regs.specs.Table.{Row, direct, by_siselect, by_vsiselect, part_read, unused_read, indirect, unused, sctrctl, guest_select, kept, no_register, transfer_rows, row_in, row_of}
-use Rattle.indirect_regs.specs.Facts.{IsWholeUnit, UseFits, AnswerFits, IsAccessed}
-use Rattle.indirect_regs.specs.Access.{Accessed, is_write, new_value, unchanged, put_in, used, passed, accessed}
+use Rattle.indirect_regs.specs.Table.{Row, direct, by_siselect, by_vsiselect, indirect, unused, sctrctl, guest_select, kept, no_register, transfer_rows, row_in, row_of}
+use Rattle.indirect_regs.specs.Facts.{IsWholeUnit, UseFits, IsAccessed}
+use Rattle.indirect_regs.specs.Access.{is_write, new_value, put_in, used, passed, accessed}
 
 pub unit_of : (u : UnitState) → IsWholeUnit u → IsUnit u
 unit_of u h = record { controls = h.controls; stack = h.buffer.stack }

@@ -1,5 +1,5 @@
 -- What the unit of a hart and an access to a register keep to.
-use Rattle.std.specs.Prelude.{ℕ, ◌^◌, ◌<◌, Option, Result, Ok, Err}
+use Rattle.std.specs.Prelude.{ℕ, ◌^◌, ◌<◌, Result, Ok, Err}
 use Rattle.std.specs.Option.{IfSome}
 use Rattle.ctr_csrs.specs.declared.mode.Mode.{Mode}
 use Rattle.ctr_buffer.specs.Facts.{IsBuffer, IsEvent}

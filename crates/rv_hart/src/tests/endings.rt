@@ -1,7 +1,8 @@
 // How each instruction ends, mode by mode (RISC-V Privileged Architecture, "Environment Call and Breakpoint", "Trap-Return
 // Instructions", "Machine Cause Register" and "Machine Trap Delegation Registers"; Control Transfer Records 1.0, SCTRCLR
 // and the access rules of its registers).
-use super::{entry, memory, step};
+use super::in_modes::entry;
+use super::{memory, step};
 use crate::{Core, Hart, TaskMem};
 use ctr_buffer::ListStore;
 use ctr_csrs::Mode;
