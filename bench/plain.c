@@ -1,4 +1,4 @@
-/* A yardstick for bench/steps.sh: an interpreter of RV64I in mode M in plain C, with records in a ring, the filters and
+/* A yardstick for bench/steps.py: an interpreter of RV64I in mode M in plain C, with records in a ring, the filters and
    return-stack emulation of mctrctl, and irq lines whose interrupts aren't enabled.
    plain IMAGE STEPS DEPTH MCTRCTL IRQS: an image of at most 4096 bytes from 80000000; MCTRCTL in hexadecimal; IRQS irq
    lines, one every 1,000 steps. */

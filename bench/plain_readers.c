@@ -1,4 +1,4 @@
-/* A yardstick for bench/readers.sh: the same input in plain C, with the same tests of each field and each number; the layout is 803.
+/* A yardstick for bench/readers.py: the same input in plain C, with the same tests of each field and each number; the layout is 803.
    plain_readers samples|fields|schedule: reads standard input into memory, then prints how many samples or commands there are, and
    the nanoseconds of processor time that reading took. Samples are read where they lie, or field by field through a call. */
 #include <stdint.h>

@@ -1,22 +1,21 @@
-#!/usr/bin/env bash
-# MB a second of processor time and host instructions a byte of the two readers, beside bench/plain_readers.c: 100 MB of samples,
-# and a schedule of 10 MB, each read from memory to its end. The programs around the readers are made and proved in a temporary
-# folder. Plain C reads samples where they lie, and once more field by field through a call, as a reader over a source has to.
-# usage: bench/readers.sh [MB]     (100 where none are given; a schedule has a tenth of it)
-set -eu
-cd "$(dirname "${BASH_SOURCE[0]}")/.."
-folder="$(mktemp -d)"
-trap 'rm -rf "$folder"' EXIT
-for name in ctr_port perf_sample sched_text; do
-    mkdir -p "$folder/crates/$name"
-    cp -r crates/"$name"/src crates/"$name"/specs crates/"$name"/proofs "$folder/crates/$name/"
-    grep "^$name:" crates.txt >>"$folder/crates.txt"
-done
-echo "read_samples: ctr_port perf_sample" >>"$folder/crates.txt"
-echo "read_schedule: ctr_port sched_text" >>"$folder/crates.txt"
-mkdir -p "$folder/crates/read_samples/src" "$folder/crates/read_schedule/src" "$folder/crates/read_schedule/proofs/read_all"
+#!/usr/bin/env python3
+"""MB a second of processor time and host instructions a byte of the two readers, beside bench/plain_readers.c: 100 MB of
+samples, and a schedule of 10 MB, each read from memory to its end. The programs around the readers are made and proved in a
+temporary folder. Plain C reads samples where they lie, and once more field by field through a call, as a reader over a source
+has to.
 
-cat >"$folder/crates/read_samples/src/main.rt" <<'MAIN'
+    bench/readers.py [MB]     (100 where none are given; a schedule has a tenth of it)
+"""
+import os
+import shutil
+import struct
+import subprocess
+import sys
+import tempfile
+
+import measure
+
+READ_SAMPLES = """\
 //! Reads the samples on standard input from memory, and prints how many there are and the nanoseconds of processor
 //! time that it took.
 #![tactic(auto)]
@@ -70,9 +69,9 @@ fn main(rt: HostRuntime) -> ExitCode {
         Err(_) => ExitCode::FAILURE,
     }
 }
-MAIN
+"""
 
-cat >"$folder/crates/read_schedule/src/main.rt" <<'MAIN'
+READ_SCHEDULE = """\
 //! Reads the schedule on standard input from memory, and prints how many commands there are and the nanoseconds of
 //! processor time that it took.
 #![tactic(auto)]
@@ -130,9 +129,9 @@ fn main(rt: HostRuntime) -> ExitCode {
         Err(_) => ExitCode::FAILURE,
     }
 }
-MAIN
+"""
 
-cat >"$folder/crates/read_schedule/proofs/read_all/Invariants.antt" <<'PROOF'
+INVARIANTS = """\
 use Rattle.std.proofs.Common.{◌≡◌, None, false}
 use Rattle.read_schedule.proofs.read_all.Given as goal
 
@@ -141,17 +140,7 @@ invariant-loop-task l = (l.reader.refused ≡ None) × (l.reader.ended ≡ false
 
 abbrev pub invariant-loop : goal.invariant-loop
 invariant-loop l = (l.reader.refused ≡ None) × (l.reader.ended ≡ false)
-PROOF
-
-python3 - "$folder" "${1:-100}" <<'PYTHON'
-import os, shutil, struct, subprocess, sys
-
-folder, mb = sys.argv[1], float(sys.argv[2])
-plain = os.path.join(folder, "plain_readers")
-if shutil.which("cc"):
-    subprocess.run(["cc", "-O2", "-o", plain, "bench/plain_readers.c"], check=True)
-else:
-    plain = None
+"""
 
 
 def samples(branches, size):
@@ -170,59 +159,74 @@ def schedule(size):
     return text + some * int((size - len(text)) // len(some)) + b"end\n"
 
 
-def build(name, text):
-    """The path of a program, which is proved, and run once."""
+def write(path, text):
+    os.makedirs(os.path.dirname(path), exist_ok=True)
+    with open(path, "w", encoding="utf-8") as f:
+        f.write(text)
+
+
+def make_programs(folder):
+    """Copies the readers' crates, and writes a program over each."""
+    with open(os.path.join(measure.TOP, "crates.txt"), encoding="ascii") as f:
+        lines = [line for line in f if line.split(":")[0] in ("ctr_port", "perf_sample", "sched_text")]
+    lines += ["read_samples: ctr_port perf_sample\n", "read_schedule: ctr_port sched_text\n"]
+    write(os.path.join(folder, "crates.txt"), "".join(lines))
+    for name in ("ctr_port", "perf_sample", "sched_text"):
+        for part in ("src", "specs", "proofs"):
+            shutil.copytree(os.path.join(measure.TOP, "crates", name, part), os.path.join(folder, "crates", name, part))
+    write(os.path.join(folder, "crates", "read_samples", "src", "main.rt"), READ_SAMPLES)
+    write(os.path.join(folder, "crates", "read_schedule", "src", "main.rt"), READ_SCHEDULE)
+    write(os.path.join(folder, "crates", "read_schedule", "proofs", "read_all", "Invariants.antt"), INVARIANTS)
+
+
+def build(folder, name, text):
+    """The command of a program, which is proved, and run once."""
     here = os.path.join(folder, "crates", name)
     done = subprocess.run(["rt", "run"], cwd=here, input=text, stdout=subprocess.PIPE, stderr=subprocess.STDOUT)
     path = os.path.join(here, "out", name)
     if done.returncode or not os.path.exists(path):
         raise SystemExit(done.stdout.decode(errors="replace"))
-    return path
+    return [path]
 
 
-def seconds(command, text):
-    """The seconds that a program says it took; what it counted comes first."""
+def told(command, text):
+    """What a program counted, and the seconds that it says it took."""
     count, took = subprocess.run(command, input=text, stdout=subprocess.PIPE, check=True).stdout.split()
     return count, int(took) / 1e9
 
 
-def instructions(command, text):
-    out = os.path.join(folder, "callgrind.out")
-    subprocess.run(["valgrind", "--tool=callgrind", "--callgrind-out-file=" + out] + command, input=text,
-                   stdout=subprocess.DEVNULL, stderr=subprocess.DEVNULL, check=True)
-    for line in open(out, encoding="utf-8", errors="replace"):
-        if line.startswith(("summary:", "totals:")):
-            return int(line.split()[1])
-    raise SystemExit("callgrind gave no total")
-
-
-def per_byte(command, make):
-    """Between one and two hundred thousand bytes, so that what a run does once isn't counted."""
+def per_byte(command, make, folder):
+    """Between two and four hundred thousand bytes, so that what a run does once isn't counted."""
     few, many = make(200_000), make(400_000)
-    return (instructions(command, many) - instructions(command, few)) / (len(many) - len(few))
+    more = measure.host_instructions(command, many, folder) - measure.host_instructions(command, few, folder)
+    return more / (len(many) - len(few))
 
 
-built = {name: [build(name, text)] for name, text in (("read_samples", samples(1, 1000)), ("read_schedule", schedule(20_000)))}
-for name, program, modes, make, size in [
-    ("samples, 16 branches", "read_samples", ["samples", "fields"], lambda n: samples(16, n), mb * 1e6),
-    ("samples, 1 branch", "read_samples", ["samples", "fields"], lambda n: samples(1, n), mb * 1e6),
-    ("schedule", "read_schedule", ["schedule"], schedule, mb * 1e5),
-]:
-    ours, text = built[program], make(size)
-    bases = [[plain, mode] for mode in modes if plain]
-    count, took = seconds(ours, text)
-    line = "%-22s %8.1f MB/s" % (name, len(text) / took / 1e6)
-    for base in bases:
-        counted, other = seconds(base, text)
-        if counted != count:
-            raise SystemExit("%s: %s here, %s in plain C" % (name, count, counted))
-        line += ", plain C (%s) %8.1f, ratio %.2f" % (base[1], len(text) / other / 1e6, other / took)
-    print(line, flush=True)
-    if shutil.which("valgrind"):
-        here = per_byte(ours, make)
-        line = "%-22s %8.2f host instructions/byte" % ("", here)
-        for base in bases:
-            there = per_byte(base, make)
-            line += ", plain C (%s) %8.2f, ratio %.2f" % (base[1], there, here / there)
-        print(line, flush=True)
-PYTHON
+def main(mb):
+    with tempfile.TemporaryDirectory() as folder:
+        plain = measure.compiled("plain_readers.c", folder)
+        make_programs(folder)
+        read_samples = build(folder, "read_samples", samples(1, 1000))
+        read_schedule = build(folder, "read_schedule", schedule(20_000))
+        for name, ours, modes, make, size in [
+            ("samples, 16 branches", read_samples, ["samples", "fields"], lambda n: samples(16, n), mb * 1e6),
+            ("samples, 1 branch", read_samples, ["samples", "fields"], lambda n: samples(1, n), mb * 1e6),
+            ("schedule", read_schedule, ["schedule"], schedule, mb * 1e5),
+        ]:
+            text = make(size)
+            bases = [[plain, mode] for mode in modes if plain]
+            count, took = told(ours, text)
+            others = []
+            for base in bases:
+                counted, other = told(base, text)
+                if counted != count:
+                    raise SystemExit("%s: %s here, %s in plain C" % (name, count, counted))
+                others.append(("plain C (%s)" % base[1], len(text) / other / 1e6))
+            measure.figures(name, "MB/s", len(text) / took / 1e6, others)
+            if measure.HAS_VALGRIND:
+                others = [("plain C (%s)" % base[1], per_byte(base, make, folder)) for base in bases]
+                measure.figures("", "host instructions/byte", per_byte(ours, make, folder), others, 2)
+
+
+if __name__ == "__main__":
+    main(float(sys.argv[1]) if len(sys.argv) > 1 else 100)

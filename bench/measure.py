@@ -1,0 +1,66 @@
+"""What the scripts here share: a yardstick in plain C, times, host instructions, peak memory, and lines of figures.
+
+Each line has the figure of the program, that of the yardstick in the same run, and the ratio of the two.
+"""
+import os
+import shutil
+import subprocess
+import time
+
+HERE = os.path.dirname(os.path.abspath(__file__))
+TOP = os.path.join(HERE, "..")
+HAS_VALGRIND = shutil.which("valgrind") is not None
+
+
+def compiled(source, folder):
+    """The path of a C program of this folder, compiled, or None where there is no compiler."""
+    if not shutil.which("cc"):
+        return None
+    path = os.path.join(folder, os.path.splitext(source)[0])
+    subprocess.run(["cc", "-O2", "-o", path, os.path.join(HERE, source)], check=True)
+    return path
+
+
+def seconds(command, text):
+    begin = time.perf_counter()
+    subprocess.run(command, input=text, stdout=subprocess.DEVNULL, check=True)
+    return time.perf_counter() - begin
+
+
+def host_instructions(command, text, folder):
+    out = os.path.join(folder, "callgrind.out")
+    subprocess.run(["valgrind", "--tool=callgrind", "--callgrind-out-file=" + out] + command, input=text,
+                   stdout=subprocess.DEVNULL, stderr=subprocess.DEVNULL, check=True)
+    with open(out, encoding="utf-8", errors="replace") as f:
+        for line in f:
+            if line.startswith(("summary:", "totals:")):
+                return int(line.split()[1])
+    raise SystemExit("callgrind gave no total")
+
+
+def peak(command, text, folder):
+    """The greatest resident size in MB, as the kernel kept it for the program's own address space."""
+    path = os.path.join(folder, "input")
+    with open(path, "wb") as f:
+        f.write(text)
+    most = 0
+    with open(path, "rb") as f:
+        child = subprocess.Popen(command, stdin=f, stdout=subprocess.DEVNULL)
+        while child.poll() is None:
+            try:
+                with open("/proc/%d/status" % child.pid, encoding="ascii") as status:
+                    for line in status:
+                        if line.startswith("VmHWM:"):
+                            most = max(most, int(line.split()[1]))
+            except OSError:
+                pass
+            time.sleep(0.01)
+    return most / 1024
+
+
+def figures(name, unit, ours, others, digits=1):
+    """A line: the program's figure, and each yardstick's with the ratio to it."""
+    line = "%-40s %8.*f %s" % (name, digits, ours, unit)
+    for label, other in others:
+        line += ", %s %8.*f, ratio %.2f" % (label, digits, other, ours / other)
+    print(line, flush=True)

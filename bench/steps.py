@@ -1,0 +1,74 @@
+#!/usr/bin/env python3
+"""Steps a second, host instructions a step, and peak memory of the built program, beside bench/plain.c.
+
+    bench/steps.py [STEPS]     (100000000 where none are given)
+"""
+import os
+import struct
+import sys
+import tempfile
+
+import measure
+
+FEW = 200_000
+MEM = 4096
+BINARY = os.path.join(measure.TOP, "crates", "ctrsim", "out", "ctrsim")
+
+# auipc x5, 0; then again and again addi, add, sd, ld, xor, a call (slli and a return there), and a branch back
+MIXED = [0x00000297, 0x00130313, 0x006383B3, 0x0472B023, 0x0402B403, 0x006444B3, 0x00C000EF, 0xFE0314E3, 0xFE5FF06F,
+         0x00349513, 0x00008067]
+
+# the name, the image, the depth's code, mctrctl, and the number of irq lines
+OFF, ON, EMULATED = 0x0, 0x4, 0x84
+LOOPS = [
+    ("j .", [0x0000006F], 0, ON, 0),
+    ("a call and a return", [0x008000EF, 0xFFDFF06F, 0x00008067], 0, ON, 0),
+    ("1023 ADDI and a jump", [0x00128293] * 1023 + [0x804FF06F], 0, ON, 0),
+] + [
+    ("mixed, depth %d, %s, %d irqs" % (16 << code, what, irqs), MIXED, code, control, irqs)
+    for code in (0, 4)
+    for what, control in (("controls off", OFF), ("recorded", ON), ("emulated", EMULATED))
+    for irqs in (0, 1024)
+]
+
+
+def image_of(words):
+    return b"".join(struct.pack("<I", w) for w in words)
+
+
+def schedule(words, code, control, irqs, count, mem=MEM):
+    image = image_of(words)
+    head = "ctr-schedule 1\nharts 1\nlayout 803\ntask %d %d %d %x 0 0\n" % (len(image), mem, code, control)
+    head += "".join("irq 0 %d 3\n" % (1000 * i) for i in range(irqs)) + "images\n"
+    return head.encode() + image + b"run 0 0 %d\nsample 0\nend\n" % count
+
+
+def per_step(make, text_of, folder):
+    """The difference between two runs, so that what a run does once isn't counted."""
+    first, last = (measure.host_instructions(make(n), text_of(n), folder) for n in (FEW, 2 * FEW))
+    return (last - first) / FEW
+
+
+def main(steps):
+    with tempfile.TemporaryDirectory() as folder:
+        plain = measure.compiled("plain.c", folder)
+        for name, words, code, control, irqs in LOOPS:
+            image = os.path.join(folder, "image")
+            with open(image, "wb") as f:
+                f.write(image_of(words))
+            text_of = lambda n: schedule(words, code, control, irqs, n)
+            plainly = lambda n: [plain, image, str(n), str(16 << code), "%x" % control, str(irqs)]
+            speed = steps / measure.seconds([BINARY, "run"], text_of(steps)) / 1e6
+            others = [("plain C", steps / measure.seconds(plainly(steps), None) / 1e6)] if plain else []
+            measure.figures(name, "million steps/s", speed, others)
+            if measure.HAS_VALGRIND:
+                cost = per_step(lambda n: [BINARY, "run"], text_of, folder)
+                others = [("plain C", per_step(plainly, lambda n: None, folder))] if plain else []
+                measure.figures("", "host instructions/step", cost, others)
+        for mem in (MEM, 1048576):
+            text = schedule(MIXED, 4, ON, 1024, steps, mem)
+            print("peak memory %.1f MB with MEM %d" % (measure.peak([BINARY, "run"], text, folder), mem))
+
+
+if __name__ == "__main__":
+    main(int(sys.argv[1]) if len(sys.argv) > 1 else 100_000_000)
