@@ -4,6 +4,7 @@ ghost use Rattle.rv_alu.specs.Holds.{holds};
 use rv_decode::Cond;
 
 /// Whether a branch with this condition is taken at these values of its registers (Unprivileged ISA, conditional branches).
+#[inline(always)]
 pub fn taken(cond: Cond, a: u64, b: u64) -> bool
     ensures { result ≡ holds cond a b }
 {

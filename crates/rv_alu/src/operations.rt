@@ -9,6 +9,7 @@ use rv_decode::AluOp;
 /// The result of an operation on two 64-bit words (Unprivileged ISA, RV64I and the extension M). It has no refusal:
 /// a division by zero gives all ones, and a remainder by zero the dividend. A shift takes the low 6 bits of `b`,
 /// and a shift that ends in w the low 5.
+#[inline(always)]
 pub fn apply(op: AluOp, a: u64, b: u64) -> u64
     ensures { result ≡ value op a b }
 {
