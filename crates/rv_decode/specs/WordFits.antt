@@ -1,6 +1,6 @@
 -- Immediates and offsets are words of 64 bits (Unprivileged ISA: each is sign-extended from a
 -- narrower field).
-use Rattle.std.specs.Prelude.{ℕ, ◌^◌, ◌<◌}
+use Rattle.std.specs.Prelude.{◌^◌, ◌<◌}
 use Rattle.rv_decode.specs.declared.instruction.Instr.{Instr}
 use Rattle.rv_decode.specs.declared.instruction.Instr.TheVariants.{Lui, Auipc, Jal, Jalr, Branch, Load, Store, AluImm, Csr}
 use Rattle.rv_decode.specs.declared.instruction.CsrArg.TheVariants.{Imm}
