@@ -12,3 +12,4 @@ pub mod Commands
 pub mod Reader
 pub mod Text
 pub mod Following
+pub mod Causes

@@ -1,7 +1,8 @@
 //! One command, read from the text.
 
 ghost use Rattle.std.specs.Prelude.{◌≡◌, ◌≤◌, ◌<◌, ◌-◌, ◌^◌, false, [], length, IfOk};
-ghost use Rattle.ctr_port.specs.Counts.{Rose};
+ghost use Rattle.sched_text.specs.Causes.{is_command_read};
+ghost use Rattle.ctr_port.specs.Counts.{HasCause};
 ghost use Rattle.ctr_port.specs.InHand.{text_of};
 ghost use Rattle.sched_text.specs.Commands.{is_end, command_at, needs_read};
 ghost use Rattle.sched_text.specs.Rows.{IsCommand};
@@ -26,8 +27,7 @@ pub(crate) fn is_end(command: &Command) -> bool
 fn finish<S: Source>(window: &mut Window, source: &mut S, line: u32) -> Result<(), CommandFault>
     requires { line < 2 ^ 32 - 1 }
     ensures finishes { Finishes line (text_of window.old (S.left source.old)) (text_of window.new (S.left source.new)) window.new result }
-    ensures later { S.faults source.old ≤ S.faults source.new }
-    ensures cause { result ≡ Err CommandFault.ReadFault → Rose (S.faults source.old) (S.faults source.new) }
+    ensures cause { HasCause is_command_read (S.faults source.old) (S.faults source.new) result }
     ensures still { 0 < length window.old → source.new ≡ source.old }
     ensures hand { length window.new ≤ WINDOW }
     ensures none { IfOk result (λ _. window.new ≡ []) }
@@ -66,8 +66,7 @@ pub(crate) fn next_command<S: Source>(
 ) -> Result<Command, CommandFault>
     requires { line < 2 ^ 32 - 1 }
     ensures shows { Shows (command_at line commands) (text_of window.old (S.left source.old)) (text_of window.new (S.left source.new)) window.new result }
-    ensures later { S.faults source.old ≤ S.faults source.new }
-    ensures cause { result ≡ Err CommandFault.ReadFault → Rose (S.faults source.old) (S.faults source.new) }
+    ensures cause { HasCause is_command_read (S.faults source.old) (S.faults source.new) result }
     ensures still { needs_read window.old ≡ false → source.new ≡ source.old }
     ensures range { IfOk result IsCommand }
     ensures hand { length window.new ≤ WINDOW }

@@ -1,7 +1,8 @@
 //! The lines up to `images`, read from the text.
 
 ghost use Rattle.std.specs.Prelude.{◌≡◌, ◌≤◌, ◌<◌, ◌+◌, ◌-◌, ◌^◌, length, IfOk};
-ghost use Rattle.ctr_port.specs.Counts.{Rose};
+ghost use Rattle.sched_text.specs.Causes.{is_read};
+ghost use Rattle.ctr_port.specs.Counts.{HasCause};
 ghost use Rattle.ctr_port.specs.InHand.{text_of};
 ghost use Rattle.sched_text.specs.Header.{lines_of, is_done, Sound};
 ghost use Rattle.sched_text.specs.Heads.{OneLine, Heads, IsHeader};
@@ -29,8 +30,7 @@ fn one_line<S: Source>(
     ensures few { IfOk result (λ _. length progress.new.irqs ≤ 65537) }
     ensures sound { IfOk result (λ _. Sound progress.new) }
     ensures hand { length window.new ≤ WINDOW }
-    ensures later { S.faults source.old ≤ S.faults source.new }
-    ensures cause { result ≡ Err ScheduleFault.ReadFault → Rose (S.faults source.old) (S.faults source.new) }
+    ensures cause { HasCause is_read (S.faults source.old) (S.faults source.new) result }
 {
     let count = match read_line(window, source, WINDOW) {
         Ok(count) => count,
@@ -81,8 +81,7 @@ pub(crate) fn read_header<S: Source>(
     ensures sound { IfOk result IsHeader }
     ensures most { line.new ≤ HEADER_LINES }
     ensures hand { length window.new ≤ WINDOW }
-    ensures later { S.faults source.old ≤ S.faults source.new }
-    ensures cause { result ≡ Err ScheduleFault.ReadFault → Rose (S.faults source.old) (S.faults source.new) }
+    ensures cause { HasCause is_read (S.faults source.old) (S.faults source.new) result }
 {
     let mut progress = Progress::new(alloc);
     while !is_done(progress.place) {

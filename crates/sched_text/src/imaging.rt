@@ -1,7 +1,8 @@
 //! The bytes of an image, read from the text.
 
 ghost use Rattle.std.specs.Prelude.{◌≡◌, ◌≤◌, ◌<◌, ◌-◌, ◌++◌, length, min, take, drop, OnOk, IfOk};
-ghost use Rattle.ctr_port.specs.Counts.{Rose};
+ghost use Rattle.sched_text.specs.Causes.{is_read};
+ghost use Rattle.ctr_port.specs.Counts.{HasCause};
 ghost use Rattle.ctr_port.specs.InHand.{text_of};
 ghost use Rattle.sched_text.specs.Images.{Images, image_at};
 
@@ -34,8 +35,7 @@ pub(crate) fn read_image<S: Source>(
     len: u32,
 ) -> Result<Image, ScheduleFault>
     ensures images { Images line len (text_of window.old (S.left source.old)) (text_of window.new (S.left source.new)) window.new result }
-    ensures later { S.faults source.old ≤ S.faults source.new }
-    ensures cause { result ≡ Err ScheduleFault.ReadFault → Rose (S.faults source.old) (S.faults source.new) }
+    ensures cause { HasCause is_read (S.faults source.old) (S.faults source.new) result }
     ensures hand { length window.new ≤ WINDOW }
     ensures size { IfOk result (λ image. length image ≡ len) }
     ensures still { len ≤ length window.old → source.new ≡ source.old }

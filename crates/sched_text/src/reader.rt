@@ -1,7 +1,8 @@
 //! A schedule read from its source, call by call.
 
 ghost use Rattle.std.specs.Prelude.{◌≡◌, ◌≢◌, ◌≤◌, ◌<◌, ◌+◌, None, Some, false, length, IfOk};
-ghost use Rattle.ctr_port.specs.Counts.{Rose};
+ghost use Rattle.sched_text.specs.Causes.{is_read, is_command_read};
+ghost use Rattle.ctr_port.specs.Counts.{HasCause};
 ghost use Rattle.ctr_port.specs.InHand.{text_of};
 ghost use Rattle.sched_text.specs.Commands.{command_at, needs_read};
 ghost use Rattle.sched_text.specs.Heads.{Heads, IsHeader};
@@ -75,8 +76,7 @@ impl ScheduleReader {
         ensures heads { Heads self.new.line (text_of self.old.hand (S.left source.old)) (text_of self.new.hand (S.left source.new)) self.new.hand result }
         ensures sound { IfOk result IsHeader }
         ensures hand { length self.new.hand ≤ WINDOW }
-        ensures later { S.faults source.old ≤ S.faults source.new }
-        ensures cause { result ≡ Err ScheduleFault.ReadFault → Rose (S.faults source.old) (S.faults source.new) }
+        ensures cause { HasCause is_read (S.faults source.old) (S.faults source.new) result }
         ensures refused { self.new.refused ≡ refusal_of result }
         ensures none { (self.new.commands ≡ 0) × (self.new.ended ≡ false) }
     {
@@ -100,8 +100,7 @@ impl ScheduleReader {
         ensures images { self.old.refused ≡ None → Images self.old.line len (text_of self.old.hand (S.left source.old)) (text_of self.new.hand (S.left source.new)) self.new.hand result }
         ensures size { IfOk result (λ image. length image ≡ len) }
         ensures hand { length self.new.hand ≤ WINDOW }
-        ensures later { S.faults source.old ≤ S.faults source.new }
-        ensures cause { self.old.refused ≡ None → result ≡ Err ScheduleFault.ReadFault → Rose (S.faults source.old) (S.faults source.new) }
+        ensures cause { self.old.refused ≡ None → HasCause is_read (S.faults source.old) (S.faults source.new) result }
         ensures still { len ≤ length self.old.hand → source.new ≡ source.old }
         ensures again { (fault : ScheduleFault) → self.old.refused ≡ Some fault → (result ≡ Err fault) × (self.new ≡ self.old) × (source.new ≡ source.old) }
         ensures refused { self.new.refused ≡ refusal_of result }
@@ -128,8 +127,7 @@ impl ScheduleReader {
         ensures most { self.new.commands ≤ MOST_COMMANDS }
         ensures hand { length self.new.hand ≤ WINDOW }
         ensures fewer { IfOk result (λ _. length self.new.hand < WINDOW) }
-        ensures later { S.faults source.old ≤ S.faults source.new }
-        ensures cause { self.old.refused ≡ None → result ≡ Err CommandFault.ReadFault → Rose (S.faults source.old) (S.faults source.new) }
+        ensures cause { self.old.refused ≡ None → HasCause is_command_read (S.faults source.old) (S.faults source.new) result }
         ensures still { needs_read self.old.hand ≡ false → source.new ≡ source.old }
         ensures again { (fault : CommandFault) → self.old.refused ≡ Some (widened fault) → (result ≡ Err fault) × (self.new ≡ self.old) × (source.new ≡ source.old) }
         ensures refused { self.new.refused ≡ refusal result }

@@ -1,7 +1,8 @@
 //! One line, read as far as it goes.
 
 ghost use Rattle.std.specs.Prelude.{◌≡◌, ◌≤◌, ◌<◌, false, length};
-ghost use Rattle.ctr_port.specs.Counts.{Rose};
+ghost use Rattle.sched_text.specs.Causes.{is_failed};
+ghost use Rattle.ctr_port.specs.Counts.{HasCause};
 ghost use Rattle.ctr_port.specs.InHand.{Same};
 ghost use Rattle.sched_text.specs.Lines.{line_at};
 ghost use Rattle.sched_text.specs.Cuts.{is_open};
@@ -34,9 +35,8 @@ pub(crate) fn read_line<S: Source>(
     requires some { 0 < most }
     ensures same { Same window.old (S.left source.old) window.new (S.left source.new) }
     ensures line { HasLine window.new (S.left source.new) result }
-    ensures later { S.faults source.old ≤ S.faults source.new }
     ensures hand { length window.new ≤ WINDOW }
-    ensures cause { result ≡ Err Stop.Failed → Rose (S.faults source.old) (S.faults source.new) }
+    ensures cause { HasCause is_failed (S.faults source.old) (S.faults source.new) result }
     ensures still { is_open (line_at window.old) ≡ false → (window.new ≡ window.old) × (source.new ≡ source.old) }
 {
     loop {

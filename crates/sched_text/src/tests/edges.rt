@@ -1,4 +1,4 @@
-use super::{COMMANDS, IMAGE, START, TASK, joined, read_all};
+use super::{IMAGE, START, TASK, joined, read_all};
 use crate::{Command, Header, IrqLine, ScheduleReader, TaskLine};
 use ctr_port::MemSource;
 use std::alloc::Global;
@@ -67,9 +67,9 @@ fn the_branch_word_is_that_of_the_branch_line(rt: HostRuntime) -> Result<(), Fai
 
 #[test]
 fn a_schedule_of_version_2_is_read_as_one_of_version_1(rt: HostRuntime) -> Result<(), Fail> {
-    let first = joined(rt.alloc(), &[START, TASK, IMAGE, COMMANDS])?;
+    let first = joined(rt.alloc(), &[START, TASK, IMAGE, super::COMMANDS])?;
     let branch = "ctr-schedule 2\nharts 1\nlayout 803\nbranch 0\n";
-    let second = joined(rt.alloc(), &[branch, TASK, IMAGE, COMMANDS])?;
+    let second = joined(rt.alloc(), &[branch, TASK, IMAGE, super::COMMANDS])?;
     for text in [first, second] {
         let mut source = MemSource::new(rt.alloc(), &text, &[], &[])?;
         let answers = read_all(rt.alloc(), &mut ScheduleReader::new(), &mut source)?;

@@ -37,5 +37,5 @@ loop-command-preserved g c =
       most = c.command.ensures.most;
       given = subst (λ (k : ℕ). Of a d (Given lines k)) (sym one)
           (given_more lines n (c.loop-command.reader.line + 1) c.in-Ok.command a b d number other inv.given (c.in-Ok.ensures.shows inv.open_));
-      later = omega (arith, inv.later, c.in-Ok.ensures.later);
+      later = omega (arith, inv.later, c.in-Ok.ensures.cause inv.open_);
     }

@@ -21,7 +21,7 @@ loop-line-preserved g c =
       c.in-Ok.ensures.sound,
       c.in-Ok.ensures.few,
       c.one_line.ensures.hand,
-      omega (arith, c.in-Ok.ensures.later, c.loop-line.invariant.5),
+      omega (arith, c.in-Ok.ensures.cause, c.loop-line.invariant.5),
     )
 
 pub returns-in-Err-clause-heads : goal.returns-in-Err-clause-heads
