@@ -1,3 +1,5 @@
+-- What a reader must believe: Entry, Stack, History and Facts, and the statements of EntryLaws. Ring ties the
+-- fast store to them; HistoryLaws and FactLemmas have proofs that the crates above cite.
 pub mod Entry
 pub mod EntryLaws
 pub mod Facts

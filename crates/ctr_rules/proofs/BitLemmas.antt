@@ -1,5 +1,5 @@
 -- The bit that a mode or a transfer type goes by says what the tables say.
-use Rattle.std.proofs.Common.{◌≡◌, refl, ℕ, Bool, true, false, not, cond}
+use Rattle.std.proofs.Common.{◌≡◌, refl, ℕ, not, cond}
 use Rattle.ctr_csrs.specs.declared.mode.Mode.{Mode}
 use Rattle.ctr_csrs.specs.declared.mode.Mode.TheVariants as modes
 use Rattle.ctr_csrs.specs.ControlFigure.{is_on}

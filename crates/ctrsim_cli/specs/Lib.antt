@@ -1,3 +1,5 @@
+-- What a reader must believe: SmallForm with Lines, Numbers, Irqs and Form, Sample, Fault, Left and Ended. Performed
+-- ties the private functions to them, and Worked has two runs by hand.
 pub mod Lines
 pub mod Numbers
 pub mod Irqs

@@ -1,5 +1,5 @@
 -- What a step that takes a trap or returns leaves, by cases of the step.
-use Rattle.std.proofs.Common.{◌≡◌, refl, ap, ◌∙◌, ℕ, List, Option, Some, None, Result, Ok, Err}
+use Rattle.std.proofs.Common.{◌≡◌, refl, ap, ℕ, List, Option, Some, None, Result, Ok, Err}
 use Rattle.ctr_csrs.specs.declared.mode.Mode.{Mode}
 use Rattle.ctr_csrs.specs.declared.mode.Mode.TheVariants as modes
 use Rattle.guest_modes.specs.declared.gating.CsrFault.{CsrFault}
@@ -13,10 +13,10 @@ use Rattle.rv_decode.specs.declared.instruction.Instr.TheVariants.{Lui, Auipc, J
 use Rattle.rv_decode.specs.Rows.{decoded}
 use Rattle.rv_hart.specs.declared.outcome.Outcome.{Outcome}
 use Rattle.rv_hart.specs.declared.outcome.Outcome.TheVariants.{Goes, Returns, Raises}
-use Rattle.rv_hart.specs.Effect.{Effect, effect}
+use Rattle.rv_hart.specs.Effect.{effect}
 use Rattle.rv_hart.specs.Ending.{Ending, EndingsByMode, MonitorClearsAsSctrclr, TrapsAndReturnsWriteNothing, EndLeaves, GoesOn, Returned, Trapped, access_ending, clear_ending, decoded_ending, instruction_ending, interrupt_ending, outcome_ending, return_core, trap_begins, trap_core, word_ending}
 use Rattle.rv_hart.specs.Processor.{CoreState}
-use Rattle.rv_hart.specs.Step.{MachineState, Step, answered, by_effect, by_instruction, by_interrupt, by_word, clears, concluded, executed, fetched, next, raised, use_of}
+use Rattle.rv_hart.specs.Step.{MachineState, answered, by_effect, by_instruction, by_interrupt, by_word, clears, concluded, executed, fetched, next, raised, use_of}
 use Rattle.rv_hart.specs.StepLaws.{Leaves}
 use Rattle.rv_hart.proofs.StepLemmas.{exceptions_write_nothing}
 

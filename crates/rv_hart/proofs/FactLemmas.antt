@@ -1,12 +1,11 @@
 -- A step keeps the facts of states: one lemma a function of its definition, with a premise for each argument.
-use Rattle.std.proofs.Common.{◌≡◌, refl, ap, sym, subst, ◌∙◌, ℕ, zero, suc, ◌+◌, ◌-◌, ◌*◌, ◌/◌, ◌%◌, ◌^◌, ◌<◌, ◌≤◌, Bool, true, false, ◌&&◌, cond, nat_eq, ltb, List, [], ◌∷◌, ◌++◌, fold, length, take, drop, replicate, Option, Some, None, Result, Ok, Err, arith, lit<, add_assoc}
+use Rattle.std.proofs.Common.{◌≡◌, refl, ap, subst, ◌∙◌, ℕ, zero, suc, ◌+◌, ◌-◌, ◌/◌, ◌%◌, ◌^◌, ◌<◌, Bool, true, false, ◌&&◌, cond, nat_eq, ltb, List, [], ◌∷◌, ◌++◌, fold, length, take, drop, replicate, Option, Some, None, Result, Ok, Err, arith, lit<}
 use Rattle.std.specs.Option.{IfSome}
 use Rattle.std.specs.Prelude.{slice_index, slice_set}
 use Rattle.std.specs.Int.{byte_at, bytes_low_first}
-use Rattle.std.specs.List.{All}
 use Rattle.std.proofs.lemmas.Bool.{eqb-true}
 use Rattle.std.proofs.lemmas.Nat.{mod_below}
-use Rattle.std.proofs.lemmas.List.{length-set, length-replicate}
+use Rattle.std.proofs.lemmas.List.{length-set}
 use Rattle.std.proofs.lemmas.List.Elements.{All-nil, All-cons, All-take, All-drop, All-append, All-set, All-replicate, All-from_recursion}
 use Rattle.byteorder.specs.Endian.{little_bytes, little_number}
 use Rattle.byteorder.specs.Numbers.{little_from-lt}
@@ -15,7 +14,7 @@ use Rattle.ctr_csrs.specs.Depths.{entries_of}
 use Rattle.ctr_csrs.specs.declared.mode.Mode.{Mode}
 use Rattle.ctr_csrs.specs.declared.mode.Mode.TheVariants as modes
 use Rattle.ctr_buffer.specs.declared.event.Event.{Event}
-use Rattle.ctr_buffer.specs.declared.event.Event.TheVariants.{SetDepth, Clear}
+use Rattle.ctr_buffer.specs.declared.event.Event.TheVariants.{Clear}
 use Rattle.ctr_buffer.specs.Entry.{IsEntry, with_flag, zero_entry}
 use Rattle.ctr_buffer.specs.History.{after, stack_of, CanTakeAll}
 use Rattle.ctr_buffer.specs.Stack.{Stack, empty}
@@ -27,7 +26,7 @@ use Rattle.ctr_rules.specs.declared.transfer.Act.{Act}
 use Rattle.ctr_rules.specs.declared.transfer.Act.TheVariants as acts
 use Rattle.ctr_rules.specs.FreezeBits.{freezes}
 use Rattle.ctr_rules.specs.RowTable.{Row, EmulatedCall, EmulatedReturn, EmulatedSwap, Within, TrapIn, ReturnOut, TrapOut, act_of}
-use Rattle.ctr_rules.specs.Admitted.{admitted, act_by, row_of, view_of}
+use Rattle.ctr_rules.specs.Admitted.{act_by, row_of, view_of}
 use Rattle.guest_modes.specs.Facts.{IsPriv, IsPlace, IsSmall, IsKept, kept}
 use Rattle.guest_modes.specs.FactLemmas.{entered_keeps, left_keeps, handler_place, return_place, raised_keeps, cleared_keeps}
 use Rattle.guest_modes.specs.Fresh.{fresh_registers}
@@ -37,7 +36,6 @@ use Rattle.guest_modes.specs.Words.{IsWithin}
 use Rattle.guest_modes.specs.declared.gating.CsrFault.{CsrFault}
 use Rattle.guest_modes.specs.declared.gating.CsrFault.TheVariants.{Illegal, Virtual}
 use Rattle.guest_modes.specs.declared.returning.Ret.{Ret}
-use Rattle.guest_modes.specs.declared.returning.Ret.TheVariants as rets
 use Rattle.guest_modes.specs.declared.registers.Priv.{Priv}
 use Rattle.guest_modes.specs.declared.targets.Trap.{Trap}
 use Rattle.guest_modes.specs.declared.targets.Trap.TheVariants.{Exception, Interrupt}
@@ -65,10 +63,10 @@ use Rattle.rv_hart.specs.declared.outcome.Jump.{Jump}
 use Rattle.rv_hart.specs.declared.outcome.Outcome.{Outcome}
 use Rattle.rv_hart.specs.declared.outcome.Outcome.TheVariants.{Goes, Returns, Raises}
 use Rattle.rv_hart.specs.Processor.{CoreState, plus, reg, put, at_next}
-use Rattle.rv_hart.specs.Memory.{base, place_of, bytes_of, number_at, loaded, stored}
-use Rattle.rv_hart.specs.Effect.{Effect, effect, even, jump_of, raises, goes_on, gives, goes_to, jumps, branches, loads, loads_at, stores, stores_at, call_cause, machine_return, supervisor_return}
-use Rattle.rv_hart.specs.Transfers.{entry_of, events_by, frozen_by, act_in}
-use Rattle.rv_hart.specs.Step.{MachineState, Step, Made, carried, trap_transfer, return_transfer, jump_transfer, trapped, returned, went, concluded, operand, is_zero, use_of, any_event, refused, answered, by_access, clears, by_effect, executed, by_instruction, by_word, fetched_at, fetched, lowered, by_interrupt, raised, made, step_of, events_of, landed, next}
+use Rattle.rv_hart.specs.Memory.{place_of, bytes_of, number_at, loaded, stored}
+use Rattle.rv_hart.specs.Effect.{Effect, effect, even, jump_of, raises, gives, goes_to, jumps, branches, loads, loads_at, stores, stores_at, call_cause, machine_return, supervisor_return}
+use Rattle.rv_hart.specs.Transfers.{entry_of, events_by, act_in}
+use Rattle.rv_hart.specs.Step.{MachineState, carried, trap_transfer, return_transfer, jump_transfer, trapped, returned, went, concluded, operand, is_zero, use_of, any_event, answered, clears, by_effect, executed, by_instruction, by_word, fetched_at, fetched, lowered, by_interrupt, raised, step_of, events_of, next}
 use Rattle.rv_hart.specs.Task.{Task, causes}
 use Rattle.rv_hart.specs.Lone as lones
 use Rattle.rv_hart.specs.Facts.{AreRegisters, IsCore, AreBytes, IsState, AreEvents, IsStep, IsMade, IsTask, CanReplay, StepsKeep}

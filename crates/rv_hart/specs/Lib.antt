@@ -1,3 +1,5 @@
+-- What a reader must believe: Memory, Processor, Effect, Transfers, Step, Hart, Task and Lone, and the statements of
+-- StepLaws, Ending and Facts.
 pub mod Memory
 pub mod Processor
 pub mod Effect
