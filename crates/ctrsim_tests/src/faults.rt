@@ -148,24 +148,45 @@ fn there_are_1024_irq_lines_at_most(rt: HostRuntime) -> Result<(), NoMemory> {
     Ok(())
 }
 
+const CANNOT_READ: Outcome = Outcome {
+    status: 3,
+    fault: Some(Fault::ReadFault),
+};
+
 #[test]
-fn a_read_that_fails_is_told(rt: HostRuntime) -> Result<(), NoMemory> {
-    let mut source = MemSource::new(rt.alloc(), ONE_CALL, &[10], &[2])?;
+fn a_read_that_fails_at_any_call_is_told_and_not_tried_again(
+    rt: HostRuntime,
+) -> Result<(), NoMemory> {
+    // 85 bytes in pieces of 10: nine reads give bytes, and the tenth looks for the end.
+    for k in 0..10u64 {
+        let mut source = MemSource::new(rt.alloc(), ONE_CALL, &[10], &[k])?;
+        let sink = MemSink::new(rt.alloc(), 4096, &[], &[])?;
+        let notes = MemSink::new(rt.alloc(), 128, &[], &[])?;
+        let ended = call(rt.alloc(), &["run"], &mut source, sink, notes)?;
+        stops(
+            &rt,
+            "a failed read",
+            &ended,
+            CANNOT_READ,
+            b"ctrsim: cannot read\n",
+            0,
+        );
+    }
+    Ok(())
+}
+
+#[test]
+fn the_end_is_not_looked_for_twice(rt: HostRuntime) -> Result<(), NoMemory> {
+    let mut source = MemSource::new(rt.alloc(), ONE_CALL, &[10], &[10, 11, 12])?;
     let sink = MemSink::new(rt.alloc(), 4096, &[], &[])?;
     let notes = MemSink::new(rt.alloc(), 128, &[], &[])?;
     let ended = call(rt.alloc(), &["run"], &mut source, sink, notes)?;
-    let want = Outcome {
-        status: 3,
-        fault: Some(Fault::ReadFault),
-    };
-    stops(
-        &rt,
-        "the third read",
-        &ended,
-        want,
-        b"ctrsim: cannot read\n",
+    assert_eq!(rt;
+        ended.outcome.status,
         0,
+        "the calls behind the end aren't made"
     );
+    assert_eq!(rt; ended.sink.bytes().len(), 56);
     Ok(())
 }
 

@@ -5,3 +5,4 @@ mod StepLemmas
 mod TaskLemmas
 mod FactLemmas
 mod EndingLemmas
+mod RecordLemmas

@@ -1,5 +1,5 @@
 -- What a reader must believe: Memory, Processor, Effect, Transfers, Step, Hart, Task and Lone, and the statements of
--- StepLaws, Ending and Facts.
+-- StepLaws, Ending, Executed and Facts.
 pub mod Memory
 pub mod Processor
 pub mod Effect
@@ -10,4 +10,5 @@ pub mod Task
 pub mod Lone
 pub mod StepLaws
 pub mod Ending
+pub mod Executed
 pub mod Facts

@@ -2,6 +2,7 @@ ghost use Rattle.std.specs.Prelude.{◌≡◌, ℕ, ◌^◌, ◌<◌, ◌%◌, L
 ghost use Rattle.std.specs.List.{All};
 ghost use Rattle.rv_hart.specs.Step.{next, events_of};
 ghost use Rattle.rv_hart.specs.Facts.{IsCore, NextKeeps, StepsKeep, LoneRunKeeps, HistoryKeeps, HistoryReplays};
+ghost use Rattle.rv_hart.specs.Executed.{TransfersRecordThemselves};
 ghost use Rattle.rv_hart.specs.Ending.{EndingsByMode, MonitorClearsAsSctrclr, TrapsAndReturnsWriteNothing};
 ghost use Rattle.rv_hart.specs.StepLaws.{ExceptionsWriteNothing, MemoryKeepsItsSize, NoStepChangesX0, AtMostOneEvent};
 ghost use Rattle.guest_modes.specs.Words.{IsWithin};
@@ -27,6 +28,9 @@ pub fn step_laws()
 
     // A monitor's clear is SCTRCLR.
     ensures clear { MonitorClearsAsSctrclr }
+
+    // What is recorded of a jump, a branch or a return has its own address, the next one, and the type of the instruction.
+    ensures records { TransfersRecordThemselves }
 {}
 
 /// Laws of the lone run of a task, of every task and number of steps: a proof and no work.
