@@ -1,9 +1,9 @@
 -- The record of a jump, a branch or a return, by cases of its instruction.
-use Rattle.std.proofs.Common.{◌≡◌, ◌⊎◌, inl, inr, refl, ap, sym, subst, ◌∙◌, ℕ, ◌%◌, Bool, true, false, cond, nat_eq, List, [], ◌∷◌, length, Option, Some, None}
+use Rattle.std.proofs.Common.{◌≡◌, inl, inr, refl, ap, sym, subst, ◌∙◌, ℕ, ◌%◌, Bool, true, false, cond, nat_eq, List, [], ◌∷◌, Option, Some, None}
 use Rattle.ctr_csrs.specs.declared.mode.Mode.{Mode}
 use Rattle.ctr_csrs.specs.declared.mode.Mode.TheVariants as modes
 use Rattle.ctr_buffer.specs.declared.event.Event.{Event}
-use Rattle.ctr_buffer.specs.declared.event.Event.TheVariants.{Push, Swap, Pop}
+use Rattle.ctr_buffer.specs.declared.event.Event.TheVariants.{Push, Swap}
 use Rattle.ctr_buffer.specs.Entry.{Entry, recorded_entry, zero_entry}
 use Rattle.ctr_rules.specs.declared.transfer.Act.{Act}
 use Rattle.ctr_rules.specs.declared.transfer.Act.TheVariants as acts
@@ -22,15 +22,15 @@ use Rattle.rv_decode.specs.Rows.{decoded}
 use Rattle.xfer_class.specs.declared.types.XferType.{XferType}
 use Rattle.xfer_class.specs.declared.types.XferType.TheVariants as types
 use Rattle.xfer_class.specs.Missed.{missed_of}
-use Rattle.xfer_class.specs.Types.{code_of, jal_type, jalr_type, type_of}
+use Rattle.xfer_class.specs.Types.{code_of, type_of}
 use Rattle.rv_hart.specs.declared.outcome.Jump.{Jump}
 use Rattle.rv_hart.specs.declared.outcome.Outcome.{Outcome}
 use Rattle.rv_hart.specs.declared.outcome.Outcome.TheVariants.{Goes, Returns, Raises}
-use Rattle.rv_hart.specs.Effect.{branches, effect, even, goes_to, jump_of, jump_with, machine_return, raises, supervisor_return}
-use Rattle.rv_hart.specs.Ending.{Ending, decoded_ending, ending, instruction_ending, interrupt_ending, outcome_ending, word_ending}
-use Rattle.rv_hart.specs.Executed.{HasEntry, IsKept, IsRecordOf, IsTransfer, TakesNoTrap, TransfersRecordThemselves, decoded_at, instruction_by, instruction_of}
+use Rattle.rv_hart.specs.Effect.{branches, even, goes_to, jump_of, jump_with, machine_return, raises, supervisor_return}
+use Rattle.rv_hart.specs.Ending.{decoded_ending, instruction_ending, interrupt_ending, outcome_ending, word_ending}
+use Rattle.rv_hart.specs.Executed.{HasEntry, IsKept, IsRecordOf, IsTransfer, TakesNoTrap, TransfersRecordThemselves, decoded_at, instruction_by}
 use Rattle.rv_hart.specs.Processor.{CoreState, plus, put, reg}
-use Rattle.rv_hart.specs.Step.{MachineState, by_effect, by_instruction, by_interrupt, by_word, concluded, events_of, executed, fetched, jump_transfer, next, raised, return_transfer, returned, went}
+use Rattle.rv_hart.specs.Step.{MachineState, by_effect, by_instruction, by_interrupt, by_word, concluded, executed, fetched, jump_transfer, raised, return_transfer, returned, went}
 use Rattle.rv_hart.specs.Transfers.{act_in, entry_of, events_by}
 use Rattle.rv_hart.proofs.StepLemmas.{of_either}
 
@@ -87,9 +87,9 @@ of_record t r e is same = record {
   source = is.0;
   target = is.1;
   entry =
-    sym same
-    ∙ ap (λ (k : XferType). recorded_entry r.source r.target r.misp (code_of k)) is.2
-    ∙ ap (λ (b : Bool). recorded_entry r.source r.target b (code_of t.kind)) is.3;
+      sym same
+      ∙ ap (λ (k : XferType). recorded_entry r.source r.target r.misp (code_of k)) is.2
+      ∙ ap (λ (b : Bool). recorded_entry r.source r.target b (code_of t.kind)) is.3;
 }
 
 pub none_there : {A : Type 0} (e : Entry) → HasEntry e [] → A

@@ -1,17 +1,18 @@
 -- How reading a whole schedule ends.
-use Rattle.std.proofs.Common.{◌≡◌, ◌⊎◌, inl, inr, ℕ, suc, ◌+◌, ◌<◌, List, [], ◌∷◌, ◌++◌, length, take, drop, true, false, Option, None, Some, Result, Ok, Err, refl, sym, ap, ◌∙◌, subst, arith, add-one, append_assoc, length-append, take-append-drop, length-take, length-take-le}
+use Rattle.std.proofs.Common.{◌≡◌, ◌⊎◌, inl, inr, ℕ, zero, suc, ◌+◌, ◌-◌, ◌<◌, ◌≤◌, ◌||◌, min, List, [], ◌∷◌, ◌++◌, length, take, drop, Bool, true, false, Option, None, Some, Result, Ok, Err, refl, sym, ap, ◌∙◌, subst, arith, add-one, append_assoc, append-nil, length-append, take-append-drop, length-take, length-take-le}
 use Rattle.std.proofs.Math.Seq.{drop-append_seam}
 use Rattle.std.proofs.lemmas.Bool.{or_right}
 use Rattle.ctr_port.specs.InHand.{Of, text_of}
 use Rattle.ctr_port.proofs.InHand.{of_map, of_then}
 use Rattle.sched_text.proofs.WholeLaws.{whole_or_broken}
 use Rattle.sched_text.specs.Lines.{LineCut, Line, Long, Open, line_at}
-use Rattle.sched_text.specs.Header.{header_cut, after}
+use Rattle.sched_text.specs.Header.{refuse, header_cut, after}
 use Rattle.sched_text.specs.Heads.{Heads, HasHeader, HeaderBreak, IsCutOff, done}
 use Rattle.sched_text.specs.Images.{IsWithin}
-use Rattle.sched_text.specs.Commands.{command_row, command_cut, command_at, commands_after, next_command, joined}
+use Rattle.sched_text.specs.Rows.{command_of}
+use Rattle.sched_text.specs.Commands.{is_end, end_at, command_row, command_cut, command_at, commands_after, next_command, joined}
 use Rattle.sched_text.specs.Reader.{EndsAt}
-use Rattle.sched_text.specs.Text.{TextBreak, HasCommands, HasImage, IsWhole, has_end}
+use Rattle.sched_text.specs.Text.{TextBreak, ImagesBreak, CommandsBreak, HasCommands, HasImage, IsWhole, has_end, images_len}
 use Rattle.sched_text.specs.declared.schedule.Header.{Header}
 use Rattle.sched_text.specs.declared.schedule.Command.{Command}
 use Rattle.sched_text.specs.declared.schedule.Command.TheVariants as command

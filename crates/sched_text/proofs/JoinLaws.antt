@@ -1,22 +1,26 @@
 -- One call of a reader after another.
-use Rattle.std.proofs.Common.{◌≡◌, ℕ, suc, ◌+◌, ◌-◌, ◌<◌, ◌≤◌, List, [], ◌∷◌, ◌++◌, length, take, drop, if◌then◌else◌, Bool, true, false, nat_lt, Option, None, Some, Result, Ok, Err, refl, sym, ap, ◌∙◌, subst, arith, add-one, drop-drop, get_or}
+use Rattle.std.proofs.Common.{◌≡◌, ◌⊎◌, inl, inr, ℕ, zero, suc, ◌+◌, ◌-◌, ◌<◌, ◌≤◌, ◌||◌, List, [], ◌∷◌, ◌++◌, length, take, drop, if◌then◌else◌, Bool, true, false, nat_lt, Option, None, Some, Result, Ok, Err, refl, sym, ap, ◌∙◌, subst, arith, add-one, drop-drop, get_or}
 use Rattle.std.proofs.lemmas.List.{length-drop, drop-take}
 use Rattle.std.proofs.lemmas.List.Sums.{sum_by_more, sum_by-take-le}
 use Rattle.std.proofs.lemmas.Bool.{or_from}
 use Rattle.ctr_port.specs.InHand.{Of}
-use Rattle.ctr_port.proofs.InHand.{of_then}
+use Rattle.ctr_port.proofs.InHand.{of_map, of_then}
+use Rattle.sched_text.specs.Lines.{Open, line_at}
 use Rattle.sched_text.specs.Header.{refuse}
 use Rattle.sched_text.specs.Images.{image_at, Images, IsWithin}
 use Rattle.sched_text.specs.Commands.{is_end, command_at, commands_after, next_command, joined}
-use Rattle.sched_text.specs.Reader.{counted}
+use Rattle.sched_text.specs.Reader.{counted, Shows, EndsAt, widened}
 use Rattle.sched_text.specs.Text.{has_end}
 use Rattle.sched_text.specs.declared.schedule.TaskLine.{TaskLine}
 use Rattle.sched_text.specs.declared.schedule.Command.{Command}
+use Rattle.sched_text.specs.declared.schedule.Command.TheVariants as command
 use Rattle.sched_text.specs.declared.faults.LineFault.{LineFault}
 use Rattle.sched_text.specs.declared.faults.Reason.TheVariants as reason
+use Rattle.sched_text.specs.declared.faults.CommandFault.{CommandFault}
+use Rattle.sched_text.specs.declared.faults.CommandFault.TheVariants as stops
 use Rattle.sched_text.specs.declared.faults.ScheduleFault.{ScheduleFault}
 use Rattle.sched_text.specs.declared.faults.ScheduleFault.TheVariants as fault
-use Rattle.sched_text.specs.Following.{total, Passes, IsShort, Passed, Gives, Given, IsImage}
+use Rattle.sched_text.specs.Following.{total, Passes, IsShort, Passed, Gives, Given, After, Listened, IsImage}
 use Rattle.sched_text.proofs.FrontLaws.{end_more, parts}
 
 -- images

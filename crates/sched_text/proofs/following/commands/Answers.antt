@@ -1,6 +1,7 @@
-use Rattle.std.proofs.Common.{◌≡◌, sym, ◌∙◌, subst, ℕ, ◌+◌, arith}
+use Rattle.std.proofs.Common.{◌≡◌, refl, sym, ◌∙◌, subst, ℕ, ◌+◌, ◌≤◌, arith}
 use Rattle.ctr_port.specs.InHand.{text_of, Of}
-use Rattle.sched_text.specs.Following.{Given}
+use Rattle.sched_text.specs.Following.{Given, Listened}
+use Rattle.sched_text.specs.Reader.{widened}
 use Rattle.sched_text.proofs.JoinLaws.{no_commands, counted_one, given_more}
 use Rattle.sched_text.proofs.following.commands.Goals as goal
 

@@ -1,5 +1,6 @@
-use Rattle.std.proofs.Common.{◌≡◌, ◌≤◌, ◌+◌, ◌-◌, false, None}
+use Rattle.std.proofs.Common.{◌≡◌, ◌≤◌, ◌+◌, ◌-◌, false, None, List}
 use Rattle.ctr_port.specs.InHand.{text_of, Of}
+use Rattle.sched_text.specs.declared.schedule.Command.{Command}
 use Rattle.sched_text.specs.Following.{Given}
 use Rattle.sched_text.proofs.following.commands.Given as goal
 

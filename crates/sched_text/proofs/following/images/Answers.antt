@@ -1,6 +1,7 @@
 use Rattle.std.proofs.lemmas.Result.{err_from_is_err_and}
-use Rattle.std.proofs.Common.{take}
+use Rattle.std.proofs.Common.{◌≡◌, length, take}
 use Rattle.ctr_port.specs.InHand.{text_of}
+use Rattle.sched_text.specs.Images.{Images}
 use Rattle.sched_text.specs.Following.{total}
 use Rattle.sched_text.proofs.JoinLaws.{stops_short, fits_in}
 use Rattle.sched_text.proofs.following.images.Goals as goal

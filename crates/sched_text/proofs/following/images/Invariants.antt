@@ -1,4 +1,4 @@
-use Rattle.std.proofs.Common.{◌≡◌, ◌≤◌, take, None}
+use Rattle.std.proofs.Common.{◌≡◌, ◌≤◌, ◌-◌, take, length, None}
 use Rattle.ctr_port.specs.InHand.{text_of, Of}
 use Rattle.sched_text.specs.Following.{Passes, total}
 use Rattle.sched_text.proofs.following.images.Given as goal

@@ -1,4 +1,4 @@
-use Rattle.std.proofs.Common.{sym, subst, Ok, List, [], ℕ, Bool, false}
+use Rattle.std.proofs.Common.{◌≡◌, ◌∙◌, sym, subst, ap, Err, Ok, Option, List, [], ℕ, Bool, false}
 use Rattle.ctr_port.specs.InHand.{text_of, Of}
 use Rattle.sched_text.specs.Reader.{Reader}
 use Rattle.sched_text.specs.declared.schedule.TaskLine.{TaskLine}

@@ -1,4 +1,4 @@
-use Rattle.std.proofs.Common.{◌≡◌, ◌≤◌, ◌<◌, ◌+◌, ◌-◌, false, None}
+use Rattle.std.proofs.Common.{◌≡◌, ◌≤◌, ◌<◌, ◌+◌, ◌-◌, false, None, List}
 use Rattle.ctr_port.specs.InHand.{text_of, Of}
 use Rattle.sched_text.specs.Following.{Given}
 use Rattle.sched_text.proofs.halting.some_commands.Given as goal

@@ -1,4 +1,4 @@
-use Rattle.std.proofs.Common.{subst, List}
+use Rattle.std.proofs.Common.{◌≡◌, ◌∙◌, sym, subst, ap, Err, Ok, Option, List, [], ℕ, false}
 use Rattle.ctr_port.specs.InHand.{text_of, Of}
 use Rattle.sched_text.specs.Reader.{Reader}
 use Rattle.sched_text.specs.declared.schedule.TaskLine.{TaskLine}

@@ -1,4 +1,4 @@
-use Rattle.std.proofs.Common.{◌∙◌, sym, subst, ℕ}
+use Rattle.std.proofs.Common.{◌≡◌, ◌∙◌, sym, subst, ap, ℕ, length, take, List}
 use Rattle.ctr_port.specs.InHand.{text_of, Of}
 use Rattle.sched_text.specs.Following.{IsImage}
 use Rattle.sched_text.proofs.JoinLaws.{image_is}
