@@ -1,9 +1,15 @@
+ghost use Rattle.std.specs.Prelude.{◌≡◌, true};
+ghost use Rattle.ctr_rules.specs.Admitted.{is_branch};
+
 use super::*;
 use ctr_csrs::{Control, Mode, legal_m, legal_vs};
+use std::process::Abort;
 use xfer_class::XferType;
 
 // A transfer from 0x1000 to 0x2000 that freezes nothing.
-fn transfer(from: Mode, to: Mode, kind: XferType) -> Transfer {
+fn transfer(from: Mode, to: Mode, kind: XferType) -> Transfer
+    ensures { result.misp ≡ true → is_branch result.kind ≡ true }
+{
     Transfer {
         from,
         to,
@@ -501,24 +507,38 @@ fn between_the_seventeen_other_pairs_of_modes_no_external_trap_is_recorded(rt: H
     }
 }
 
+// A branch in M, mispredicted or not, and its record.
+fn records_a_branch(rt: &impl Abort, kind: XferType, misp: bool)
+    requires { is_branch kind ≡ true }
+{
+    let branch = Transfer {
+        from: Mode::M,
+        to: Mode::M,
+        kind,
+        source: SOURCE,
+        target: TARGET,
+        breakpoint: false,
+        lcofi: false,
+        misp,
+    };
+    let want = Act::Push(Record {
+        source: SOURCE,
+        target: TARGET,
+        kind,
+        misp,
+    });
+    let lets_in = 0x10_0000_0004; // NTBREN and M
+    assert_eq!(rt;
+        act(branch, legal_m(lets_in), legal_vs(0), false),
+        want,
+        "{kind:?} with {misp}"
+    );
+}
+
 #[test]
 fn the_record_of_a_branch_has_its_misprediction(rt: HostRuntime) {
-    for kind in [XferType::NotTaken, XferType::Taken] {
-        for misp in [false, true] {
-            let branch = Transfer {
-                misp,
-                ..transfer(Mode::M, Mode::M, kind)
-            };
-            let want = Act::Push(Record {
-                misp,
-                ..record(SOURCE, TARGET, kind)
-            });
-            let lets_in = 0x10_0000_0004; // NTBREN and M
-            assert_eq!(rt;
-                act(branch, legal_m(lets_in), legal_vs(0), false),
-                want,
-                "{kind:?} with {misp}"
-            );
-        }
+    for misp in [false, true] {
+        records_a_branch(&rt, XferType::NotTaken, misp);
+        records_a_branch(&rt, XferType::Taken, misp);
     }
 }

@@ -2,12 +2,12 @@
 // Instructions", "Machine Cause Register" and "Machine Trap Delegation Registers"; Control Transfer Records 1.0, SCTRCLR
 // and the access rules of its registers).
 use super::in_modes::entry;
-use super::{memory, step};
+use super::{csr, memory, step};
 use crate::{Core, Hart, TaskMem};
 use ctr_buffer::ListStore;
 use ctr_csrs::Mode;
 use ctr_port::NoMemory;
-use guest_modes::{Priv, read_csr, write_csr};
+use guest_modes::{Priv, write_csr};
 use indirect_regs::{CtrPort, PortReg};
 use std::alloc::Global;
 use std::process::Abort;
@@ -29,81 +29,80 @@ const ON: (u64, u64) = (99, 0);
 // it raises none.
 #[derive(Clone, Copy)]
 struct Ending {
-    name: &'static str,
     word: u32,
     x5: u64,
     ends: [(u64, u64); 5],
 }
 
 const ENDINGS: [Ending; 18] = [
+    // ecall
     Ending {
-        name: "ecall",
         word: 0x0000_0073,
         x5: X5,
         ends: [(11, 0), (9, 0), (8, 0), (10, 0), (8, 0)],
     },
+    // ebreak
     Ending {
-        name: "ebreak",
         word: 0x0010_0073,
         x5: X5,
         ends: [(3, 0), (3, 0), (3, 0), (3, 0), (3, 0)],
     },
+    // mret
     Ending {
-        name: "mret",
         word: 0x3020_0073,
         x5: X5,
         ends: [ON, (2, WORD), (2, WORD), (2, WORD), (2, WORD)],
     },
+    // sret
     Ending {
-        name: "sret",
         word: 0x1020_0073,
         x5: X5,
         ends: [ON, ON, (2, WORD), ON, (22, WORD)],
     },
+    // sctrclr
     Ending {
-        name: "sctrclr",
         word: 0x1040_0073,
         x5: X5,
         ends: [ON, ON, (2, WORD), ON, (22, WORD)],
     },
+    // wfi
     Ending {
-        name: "wfi",
         word: 0x1050_0073,
         x5: X5,
         ends: [ON, ON, ON, ON, ON],
     },
+    // csrrsi x5, mvendorid, 0 writes nothing
     Ending {
-        name: "csrrsi x5, mvendorid, 0 writes nothing",
         word: 0xF110_62F3,
         x5: 0,
         ends: [ON, (2, WORD), (2, WORD), (2, WORD), (2, WORD)],
     },
+    // csrrci x5, mvendorid, 0 writes nothing
     Ending {
-        name: "csrrci x5, mvendorid, 0 writes nothing",
         word: 0xF110_72F3,
         x5: 0,
         ends: [ON, (2, WORD), (2, WORD), (2, WORD), (2, WORD)],
     },
+    // csrrsi x5, mvendorid, 1 writes
     Ending {
-        name: "csrrsi x5, mvendorid, 1 writes",
         word: 0xF110_E2F3,
         x5: X5,
         ends: [(2, WORD), (2, WORD), (2, WORD), (2, WORD), (2, WORD)],
     },
+    // csrrw x5, mctrctl, x0
     Ending {
-        name: "csrrw x5, mctrctl, x0",
         word: 0x34E0_12F3,
         x5: 7,
         ends: [ON, (2, WORD), (2, WORD), (2, WORD), (2, WORD)],
     },
+    // csrrs x5, sctrdepth, x0
     Ending {
-        name: "csrrs x5, sctrdepth, x0",
         word: 0x15F0_22F3,
         x5: 0,
         ends: [ON, ON, (2, WORD), (22, WORD), (22, WORD)],
     },
+    // jal x5, 2
     Ending {
-        name: "jal x5, 2",
         word: 0x0020_02EF,
         x5: X5,
         ends: [
@@ -114,38 +113,38 @@ const ENDINGS: [Ending; 18] = [
             (0, PC + 2),
         ],
     },
+    // jalr x5, 2(x0)
     Ending {
-        name: "jalr x5, 2(x0)",
         word: 0x0020_02E7,
         x5: X5,
         ends: [(0, 2), (0, 2), (0, 2), (0, 2), (0, 2)],
     },
+    // ld x5, 8(x0)
     Ending {
-        name: "ld x5, 8(x0)",
         word: 0x0080_3283,
         x5: X5,
         ends: [(5, 8), (5, 8), (5, 8), (5, 8), (5, 8)],
     },
+    // lw x5, 2(x0)
     Ending {
-        name: "lw x5, 2(x0)",
         word: 0x0020_2283,
         x5: X5,
         ends: [(4, 2), (4, 2), (4, 2), (4, 2), (4, 2)],
     },
+    // sd x5, 8(x0)
     Ending {
-        name: "sd x5, 8(x0)",
         word: 0x0050_3423,
         x5: X5,
         ends: [(7, 8), (7, 8), (7, 8), (7, 8), (7, 8)],
     },
+    // sw x5, 2(x0)
     Ending {
-        name: "sw x5, 2(x0)",
         word: 0x0050_2123,
         x5: X5,
         ends: [(6, 2), (6, 2), (6, 2), (6, 2), (6, 2)],
     },
+    // no instruction
     Ending {
-        name: "no instruction",
         word: 0x0000_0000,
         x5: X5,
         ends: [(2, WORD), (2, WORD), (2, WORD), (2, WORD), (2, WORD)],
@@ -205,47 +204,50 @@ fn handler(mode: Mode) -> (u64, u16, u16, u16) {
     }
 }
 
-// What a trap left: the mode, pc, the registers of the trap, x5 as before, and the record.
-fn trapped(
-    rt: &impl Abort,
-    name: &str,
-    from: Mode,
+// What a trap left: the mode, pc, the registers of the trap, x5, and the youngest record.
+#[derive(Clone, Copy, Debug, PartialEq, Eq)]
+struct Left {
+    mode: Mode,
     pc: u64,
-    (cause, value): (u64, u64),
-    delegated: bool,
-    hart: &mut Hart<ListStore>,
-) {
-    let to = taker(from, cause, delegated);
-    let (target, epc, ecause, tval) = handler(to);
-    assert_eq!(rt; hart.core().mode, to, "{name} in {from:?}: the mode");
-    assert_eq!(rt; hart.core().pc, target, "{name} in {from:?}: pc");
-    assert_eq!(rt;
-        read_csr(&hart.core().csrs, epc),
-        pc,
-        "{name} in {from:?}: epc"
-    );
-    assert_eq!(rt;
-        read_csr(&hart.core().csrs, ecause),
-        cause,
-        "{name} in {from:?}: cause"
-    );
-    assert_eq!(rt;
-        read_csr(&hart.core().csrs, tval),
-        value,
-        "{name} in {from:?}: value"
-    );
-    assert_eq!(rt; hart.core().x[5], X5, "{name} in {from:?}: x5");
-    assert_eq!(rt;
-        entry(rt, hart, 0),
-        (pc + 1, target, 1),
-        "{name} in {from:?}: the record"
-    );
+    epc: u64,
+    cause: u64,
+    value: u64,
+    x5: u64,
+    record: (u64, u64, u64),
 }
 
-fn same_words(rt: &impl Abort, name: &str, mem: &TaskMem, words: &[u32; 4]) {
+// What a trap into a mode left.
+fn what_is_left(rt: &impl Abort, hart: &mut Hart<ListStore>, to: Mode) -> Left {
+    let (_, epc, cause, value) = handler(to);
+    Left {
+        mode: hart.core().mode,
+        pc: hart.core().pc,
+        epc: csr(rt, hart, epc),
+        cause: csr(rt, hart, cause),
+        value: csr(rt, hart, value),
+        x5: hart.core().x[5],
+        record: entry(rt, hart, 0),
+    }
+}
+
+// What a trap into a mode is to leave: the handler, and a record from pc to it.
+fn expected(to: Mode, pc: u64, cause: u64, value: u64) -> Left {
+    let (target, _, _, _) = handler(to);
+    Left {
+        mode: to,
+        pc: target,
+        epc: pc,
+        cause,
+        value,
+        x5: X5,
+        record: (pc.wrapping_add(1), target, 1),
+    }
+}
+
+fn same_words(rt: &impl Abort, mem: &TaskMem, words: &[u32; 4]) {
     for at in [0usize, 1, 2, 3] {
         assert!(rt; mem.len() == 16, "the size of memory");
-        assert_eq!(rt; mem.word(4 * at), words[at], "{name}: word {at} of memory");
+        assert_eq!(rt; mem.word(4 * at), words[at], "word {at} of memory");
     }
 }
 
@@ -272,27 +274,19 @@ fn check_ending(
         let mut mem = memory(rt, alloc, &words, 16)?;
         let mut hart = hart_at(rt, mode, PC, registers(medeleg, hedeleg));
         step(rt, &mut hart, &mut mem, 0);
+        let to = taker(mode, cause, delegated);
+        let seen = what_is_left(rt, &mut hart, to);
+        let word = case.word;
         if cause != ON.0 {
-            trapped(
-                rt,
-                case.name,
-                mode,
-                PC,
-                (cause, value),
-                delegated,
-                &mut hart,
-            );
-        } else if case.word != MRET && case.word != SRET {
-            assert_eq!(rt; hart.core().pc, PC + 4, "{} in {mode:?}: pc", case.name);
-            assert_eq!(rt;
-                hart.core().mode,
-                mode,
-                "{} in {mode:?}: the mode",
-                case.name
-            );
-            assert_eq!(rt; hart.core().x[5], case.x5, "{} in {mode:?}: x5", case.name);
+            let want = expected(to, PC, cause, value);
+            assert_eq!(rt; seen, want, "{word:x} in {mode:?}");
+        } else if word != MRET && word != SRET {
+            let x5 = case.x5;
+            assert_eq!(rt; seen.pc, PC + 4, "{word:x} in {mode:?}: pc");
+            assert_eq!(rt; seen.mode, mode, "{word:x} in {mode:?}: the mode");
+            assert_eq!(rt; seen.x5, x5, "{word:x} in {mode:?}: x5");
         }
-        same_words(rt, case.name, &mem, &words);
+        same_words(rt, &mem, &words);
     }
     Ok(())
 }
@@ -308,18 +302,16 @@ fn each_instruction_ends_by_its_mode(rt: HostRuntime) -> Result<(), NoMemory> {
 
 #[test]
 fn a_fetch_outside_of_memory_traps_in_each_mode(rt: HostRuntime) -> Result<(), NoMemory> {
+    let pc = 0x8000_0010;
     for mode in MODES {
         let mut mem = memory(&rt, rt.alloc(), &[0, 0, 0, 0], 16)?;
-        let mut hart = hart_at(&rt, mode, 0x8000_0010, registers(0x40_07FF, 0x1FF));
+        let mut hart = hart_at(&rt, mode, pc, registers(0x40_07FF, 0x1FF));
         step(&rt, &mut hart, &mut mem, 0);
-        trapped(
-            &rt,
-            "a fetch",
-            mode,
-            0x8000_0010,
-            (1, 0x8000_0010),
-            true,
-            &mut hart,
+        let to = taker(mode, 1, true);
+        assert_eq!(rt;
+            what_is_left(&rt, &mut hart, to),
+            expected(to, pc, 1, pc),
+            "a fetch in {mode:?}"
         );
     }
     Ok(())
