@@ -27,8 +27,8 @@ use std::process::ExitCode;
 use std::time::CpuClock;
 
 // How many samples there are; none where they are refused.
-fn read_all(source: &mut MemSource, layout: Layout) -> Option<u32> {
-    let mut reader = SampleReader::new(layout);
+fn read_all(source: &mut MemSource) -> Option<u32> {
+    let mut reader = SampleReader::new(Layout::of(0x803)?);
     let mut count = 0u32;
     for _ in 0..=(1u32 << 24) {
         match reader.next(source) {
@@ -42,32 +42,6 @@ fn read_all(source: &mut MemSource, layout: Layout) -> Option<u32> {
         }
     }
     None
-}
-
-fn main(rt: HostRuntime) -> ExitCode {
-    let mut bytes = Vec::new(rt.alloc());
-    if rt.stdin().read_to_end(&mut bytes).is_err() {
-        return ExitCode::FAILURE;
-    }
-    let Some(layout) = Layout::of(0x803) else {
-        return ExitCode::FAILURE;
-    };
-    let Ok(mut source) = MemSource::new(rt.alloc(), &bytes, &[], &[]) else {
-        return ExitCode::FAILURE;
-    };
-    let Ok(begin) = rt.thread_cpu_time() else {
-        return ExitCode::FAILURE;
-    };
-    let Some(count) = read_all(&mut source, layout) else {
-        return ExitCode::FAILURE;
-    };
-    let Ok(end) = rt.thread_cpu_time() else {
-        return ExitCode::FAILURE;
-    };
-    match println!(rt; "{count} {}", end.saturating_sub(begin).as_nanos()) {
-        Ok(()) => ExitCode::SUCCESS,
-        Err(_) => ExitCode::FAILURE,
-    }
 }
 """
 
@@ -106,7 +80,10 @@ fn read_all(alloc: Global, source: &mut MemSource) -> Option<u32> {
     }
     None
 }
+"""
 
+# Behind each program's `read_all`, with what it is called with for ARGUMENTS.
+MAIN = """
 fn main(rt: HostRuntime) -> ExitCode {
     let mut bytes = Vec::new(rt.alloc());
     if rt.stdin().read_to_end(&mut bytes).is_err() {
@@ -118,7 +95,7 @@ fn main(rt: HostRuntime) -> ExitCode {
     let Ok(begin) = rt.thread_cpu_time() else {
         return ExitCode::FAILURE;
     };
-    let Some(count) = read_all(rt.alloc(), &mut source) else {
+    let Some(count) = read_all(ARGUMENTS) else {
         return ExitCode::FAILURE;
     };
     let Ok(end) = rt.thread_cpu_time() else {
@@ -174,8 +151,8 @@ def make_programs(folder):
     for name in ("ctr_port", "perf_sample", "sched_text"):
         for part in ("src", "specs", "proofs"):
             shutil.copytree(os.path.join(measure.TOP, "crates", name, part), os.path.join(folder, "crates", name, part))
-    write(os.path.join(folder, "crates", "read_samples", "src", "main.rt"), READ_SAMPLES)
-    write(os.path.join(folder, "crates", "read_schedule", "src", "main.rt"), READ_SCHEDULE)
+    write(os.path.join(folder, "crates", "read_samples", "src", "main.rt"), READ_SAMPLES + MAIN.replace("ARGUMENTS", "&mut source"))
+    write(os.path.join(folder, "crates", "read_schedule", "src", "main.rt"), READ_SCHEDULE + MAIN.replace("ARGUMENTS", "rt.alloc(), &mut source"))
     write(os.path.join(folder, "crates", "read_schedule", "proofs", "read_all", "Invariants.antt"), INVARIANTS)
 
 
