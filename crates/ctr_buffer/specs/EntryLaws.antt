@@ -1,4 +1,5 @@
--- Laws of the words of an entry.
+-- Laws of the words of an entry (RISC-V Control Transfer Records 1.0, registers ctrsource,
+-- ctrtarget and ctrdata).
 use Rattle.std.specs.Prelude.{◌≡◌, ℕ, Bool, true, false}
 use Rattle.ctr_buffer.specs.Entry.{Entry, recorded_entry, unlinked, is_valid, is_mispredicted, source_address, target_address}
 

@@ -1,4 +1,5 @@
--- What a record buffer and the events of its history keep to.
+-- What a record buffer and the events of its history keep to (RISC-V Control Transfer Records 1.0,
+-- "Entry Registers").
 use Rattle.std.specs.Prelude.{◌≡◌, true}
 use Rattle.std.specs.List.{All}
 use Rattle.ctr_buffer.specs.declared.event.Event.{Event}

@@ -1,4 +1,6 @@
--- The history of a record buffer: what changed it, the oldest event first; and what it holds after a history.
+-- The history of a record buffer: what changed it, the oldest event first; and what it holds
+-- after a history (RISC-V Control Transfer Records 1.0, "Entry Registers", registers sctrdepth
+-- and sctrstatus, "RAS Emulation Mode" and "Supervisor CTR Clear Instruction").
 use Rattle.std.specs.Prelude.{ℕ, ◌+◌, ◌-◌, ◌*◌, ◌%◌, ◌≡◌, ◌≢◌, ◌<◌, Bool, true, false, List, [], ◌∷◌, cond, count_by, fold}
 use Rattle.std.specs.List.{list_any}
 use Rattle.ctr_csrs.specs.declared.depth.Depth.{Depth}

@@ -1,4 +1,4 @@
--- What holds of the stack of a history.
+-- What holds of the stack of a history (RISC-V Control Transfer Records 1.0, register sctrstatus).
 use Rattle.std.proofs.Common.{◌≡◌, ℕ, ◌+◌, ◌-◌, ◌*◌, ◌%◌, ◌<◌, inl, inr, true, false, cond, List, [], ◌∷◌, length, fold, count_by, refl, sym, ◌∙◌, ap, arith, add_assoc, length-append}
 use Rattle.std.proofs.Math.Nat.{mod-eq_of_lt, mod-add-mod, mul-add, mul-one}
 use Rattle.std.proofs.lemmas.Bool.{cases_Bool}

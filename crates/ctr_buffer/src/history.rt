@@ -1,7 +1,9 @@
 ghost use Rattle.std.specs.Prelude.{◌≡◌, ◌<◌, List, [], ◌∷◌, ◌++◌, fold};
 ghost use Rattle.ctr_buffer.specs.History.{IsHistory, after, stack_of, deep_of, pointer_of, HasPointer, CanTake, CanTakeAll};
+ghost use Rattle.ctr_buffer.specs.Entry.{valid_entries};
 ghost use Rattle.ctr_buffer.specs.Facts.{BuffersStay};
 ghost use Rattle.ctr_buffer.specs.Stack.{Stack, IsStack, empty};
+ghost use Rattle.ctr_buffer.specs.Visible.{AreVisible, HeldIsVisible, IsUnwritten, OneIsVisible, TakenHaveTransfers, ValidAreVisible};
 ghost use Rattle.ctr_buffer.specs.declared.event.Event.{Event};
 ghost use Rattle.ctr_buffer.specs.declared.event.Event.TheVariants.{SetDepth};
 
@@ -44,10 +46,16 @@ pub fn replay<B: CtrStore>(depth: Depth, later: &[Event]) -> B
     ensures stack { B.means result ≡ stack_of (SetDepth depth ∷ later.now) }
     ensures pointer { (B.means result).pointer ≡ pointer_of (SetDepth depth ∷ later.now) }
     ensures depth { (B.means result).depth ≡ deep_of (SetDepth depth ∷ later.now) }
+
+    // Where software wrote neither WRPTR nor an entry since the buffer was emptied last, the slots
+    // with V are the unreturned transfers.
+    ensures visible { IsUnwritten (SetDepth depth ∷ later.now) →
+        AreVisible (SetDepth depth ∷ later.now) (valid_entries (B.means result).slots) }
 {
     let mut store = B::fresh(depth);
     perform_all(&mut store, later);
     history_laws();
+    visible_laws();
     store
 }
 
@@ -62,4 +70,22 @@ pub fn history_laws()
     ensures pointer_sum { (history : List Event) → HasPointer history (pointer_of history) }
     ensures shape { (history : List Event) → IsStack (stack_of history) }
     ensures buffers_stay { BuffersStay }
+{}
+
+/// Laws of unreturned transfers, of every history: a proof and no work. The second and the third
+/// ask that each entry that the events record has V, as those of a hart have, and that software
+/// wrote neither WRPTR nor an entry since the buffer was emptied last.
+pub fn visible_laws()
+    // Of all events that record an entry at most one leaves it so deep.
+    ensures one { OneIsVisible }
+
+    // Entry k of the stack has V and is r exactly if the history leaves r k entries deep: at each
+    // depth, with return-stack emulation on, off, or both in turn.
+    ensures held { HeldIsVisible }
+
+    // And the entries with V, in order, are these.
+    ensures valid { ValidAreVisible }
+
+    // Events that a store can take record transfers.
+    ensures taken { TakenHaveTransfers }
 {}

@@ -5,7 +5,7 @@
 #![tactic(auto)]
 
 pub use event::Event;
-pub use history::{history_laws, perform, perform_all, replay};
+pub use history::{history_laws, perform, perform_all, replay, visible_laws};
 pub use list_store::ListStore;
 pub use ring_store::RingStore;
 pub use slot::{Part, Slot, entry_laws};

@@ -5,6 +5,8 @@ use super::*;
 use ctr_csrs::{Depth, depth_of, entries};
 use std::process::Abort;
 
+mod unreturned;
+
 // The slot of a call from the address 2n to 2n, by which it is told from the others.
 fn slot(n: u64) -> Slot
     requires { n < 1000 }
@@ -23,6 +25,7 @@ fn missed(n: u64) -> Slot
     Slot::of(2 * n, 2 * n, true, 8)
 }
 
+// RISC-V Control Transfer Records 1.0, "Entry Registers".
 fn pushes<B: CtrStore + Drop>(rt: &impl Abort) {
     for depth in [Depth::D16, Depth::D32, Depth::D64, Depth::D128, Depth::D256] {
         let mut store: B = CtrStore::fresh(depth);
@@ -48,6 +51,7 @@ fn a_push_comes_first_and_the_oldest_is_lost_at_the_depth(rt: HostRuntime) {
     pushes::<RingStore>(&rt);
 }
 
+// RISC-V Control Transfer Records 1.0, register sctrstatus: WRPTR, and register sctrdepth.
 fn turns_two<B: CtrStore + Drop>(rt: &impl Abort) {
     let mut store: B = CtrStore::fresh(Depth::D16);
     store.push(slot(1));
@@ -170,6 +174,7 @@ fn the_greatest_depth_turns_at_its_ends(rt: HostRuntime) {
     turns_at_the_ends::<RingStore>(&rt);
 }
 
+// RISC-V Control Transfer Records 1.0, "RAS Emulation Mode" and "Entry Registers".
 fn follows_a_history<B: CtrStore + Drop>(rt: &impl Abort) {
     let history = [
         Event::Push(slot(1)),
@@ -211,6 +216,7 @@ fn a_history_leaves_what_its_events_say(rt: HostRuntime) {
     follows_a_history::<RingStore>(&rt);
 }
 
+// RISC-V Control Transfer Records 1.0, "Supervisor CTR Clear Instruction" and register sctrdepth.
 fn clears<B: CtrStore + Drop>(rt: &impl Abort) {
     let history = [Event::Push(slot(1)), Event::Push(slot(2)), Event::Clear];
     let mut store: B = replay(Depth::D16, &history);
@@ -225,6 +231,7 @@ fn clears<B: CtrStore + Drop>(rt: &impl Abort) {
     history_laws();
 }
 
+// RISC-V Control Transfer Records 1.0, "RAS Emulation Mode" and registers ctrsource and ctrtarget.
 fn keeps_the_flag<B: CtrStore + Drop>(rt: &impl Abort) {
     let history = [
         Event::Push(missed(1)),
@@ -259,6 +266,7 @@ fn a_swap_a_pop_and_a_write_leave_the_misprediction_flag_to_the_entry(rt: HostRu
     keeps_the_flag::<RingStore>(&rt);
 }
 
+// RISC-V Control Transfer Records 1.0, registers ctrsource and ctrtarget.
 #[test]
 fn the_words_of_a_slot_are_read_as_v_misp_and_addresses(rt: HostRuntime) {
     for (source, target, valid, mispredicted, from, to) in [

@@ -1,4 +1,5 @@
--- What is read back from the registers is what was written.
+-- What is read back from the registers is what was written (RISC-V Control Transfer Records 1.0,
+-- registers sctrdepth and sctrstatus).
 use Rattle.std.specs.Prelude.{ℕ, ◌+◌, ◌*◌, ◌%◌, ◌^◌, ◌≡◌, ◌<◌, ◌≤◌, Bool, true, false, cond, nat_eq, Some, refl}
 use Rattle.std.proofs.Common.{◌∙◌, ap, arith, lit≤}
 use Rattle.std.proofs.Math.Nat.{mod-eq_of_lt}

@@ -1,4 +1,5 @@
--- What a transfer does to the records.
+-- What a transfer does to the records (RISC-V Control Transfer Records 1.0, "RAS Emulation Mode",
+-- "Transfer Type Filtering", "External Traps" and "Freeze").
 use Rattle.std.specs.Prelude.{true, false, ℕ, ◌≡◌, ◌%◌, Bool, cond, not, ◌&&◌, Option, Some, None}
 use Rattle.ctr_csrs.specs.declared.control_bit.ControlBit.TheVariants.{Rasemu}
 use Rattle.ctr_csrs.specs.ControlFigure.{is_on}

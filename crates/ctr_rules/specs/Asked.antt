@@ -1,4 +1,5 @@
--- How the code asks: under return-stack emulation by the transfer type alone, once both modes are enabled.
+-- How the code asks: under return-stack emulation by the transfer type alone, once both modes are
+-- enabled (RISC-V Control Transfer Records 1.0, "RAS Emulation Mode").
 use Rattle.ctr_rules.specs.declared.transfer.Act.{Act}
 use Rattle.ctr_rules.specs.declared.transfer.Act.TheVariants as acts
 use Rattle.ctr_rules.specs.declared.transfer.Record.{Record}

@@ -31,7 +31,8 @@ fn record(source: u64, target: u64, kind: XferType) -> Record {
     }
 }
 
-// Each type with its filter bit, by the register figure of mctrctl.
+// Each type with its filter bit, by the register figure of mctrctl (RISC-V Control Transfer Records
+// 1.0, "Transfer Type Filtering").
 const FILTERS: [(XferType, u64); 13] = [
     (XferType::Exception, 0x2_0000_0000),
     (XferType::Interrupt, 0x4_0000_0000),
@@ -92,6 +93,7 @@ fn each_filter_bit_keeps_its_own_type_out_and_no_other(rt: HostRuntime) {
     }
 }
 
+// RISC-V Control Transfer Records 1.0, "RAS Emulation Mode".
 #[test]
 fn return_stack_emulation_takes_calls_returns_and_swaps_alone(rt: HostRuntime) {
     // U and RASEMU; the filter bits count for nothing under it.
@@ -124,6 +126,7 @@ fn return_stack_emulation_takes_calls_returns_and_swaps_alone(rt: HostRuntime) {
     );
 }
 
+// RISC-V Control Transfer Records 1.0, "External Traps".
 #[test]
 fn an_external_trap_needs_every_trap_enable_bit_of_its_modes(rt: HostRuntime) {
     // STE is 0x100 and MTE 0x200 of mctrctl; STE of vsctrctl is 0x100 too. U is 1 and S is 2.
@@ -165,6 +168,7 @@ fn an_external_trap_needs_every_trap_enable_bit_of_its_modes(rt: HostRuntime) {
     }
 }
 
+// RISC-V Control Transfer Records 1.0, "Privilege Mode Transitions".
 #[test]
 fn an_address_of_a_mode_that_is_not_enabled_is_recorded_as_zero(rt: HostRuntime) {
     let u = legal_m(0x1); // U alone
@@ -229,6 +233,7 @@ fn an_address_of_a_mode_that_is_not_enabled_is_recorded_as_zero(rt: HostRuntime)
     }
 }
 
+// RISC-V Control Transfer Records 1.0, "Virtualization Mode Transitions".
 #[test]
 fn a_trap_between_v_0_and_v_1_takes_the_filter_of_vsctrctl(rt: HostRuntime) {
     let ecall = transfer(Mode::Vu, Mode::S, XferType::Exception);
@@ -247,6 +252,7 @@ fn a_trap_between_v_0_and_v_1_takes_the_filter_of_vsctrctl(rt: HostRuntime) {
     );
 }
 
+// RISC-V Control Transfer Records 1.0, "Freeze".
 #[test]
 fn a_freeze_records_nothing_and_needs_no_enabled_mode(rt: HostRuntime) {
     let breakpoint = XferType::Exception;
@@ -323,6 +329,7 @@ fn pushes(source: u64, target: u64, kind: XferType) -> Act {
     Act::Push(record(source, target, kind))
 }
 
+// RISC-V Control Transfer Records 1.0, "Transfer Type Filtering" and "External Traps".
 #[test]
 fn a_filter_counts_for_traps_in_and_returns_out_and_not_for_external_traps(rt: HostRuntime) {
     let exception = XferType::Exception;
@@ -444,6 +451,7 @@ fn a_filter_counts_for_traps_in_and_returns_out_and_not_for_external_traps(rt: H
     }
 }
 
+// RISC-V Control Transfer Records 1.0, "Freeze".
 #[test]
 fn an_overflow_into_s_freezes_by_mctrctl_alone(rt: HostRuntime) {
     let overflow = Transfer {
@@ -484,6 +492,7 @@ fn alone(mode: Mode) -> (u64, u64) {
     }
 }
 
+// RISC-V Control Transfer Records 1.0, "External Traps".
 #[test]
 fn between_the_seventeen_other_pairs_of_modes_no_external_trap_is_recorded(rt: HostRuntime) {
     for from in MODES {
@@ -535,6 +544,7 @@ fn records_a_branch(rt: &impl Abort, kind: XferType, misp: bool)
     );
 }
 
+// RISC-V Control Transfer Records 1.0, register ctrtarget: MISP.
 #[test]
 fn the_record_of_a_branch_has_its_misprediction(rt: HostRuntime) {
     for misp in [false, true] {

@@ -1,4 +1,4 @@
--- The registers of a hart that has executed nothing.
+-- The registers of a hart that has executed nothing (RISC-V Privileged Architecture, "Reset").
 use Rattle.guest_modes.specs.declared.registers.Priv.{Priv}
 
 abbrev pub fresh_registers : Priv

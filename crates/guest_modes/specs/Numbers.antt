@@ -1,4 +1,4 @@
--- Which register numbers there are.
+-- Which register numbers there are (RISC-V Privileged Architecture, "CSR Listing").
 use Rattle.std.specs.Prelude.{ℕ, Bool, false, ◌||◌, nat_eq, List, [], ◌∷◌}
 use Rattle.guest_modes.specs.Registers.{Row, machine_registers, supervisor_registers, hypervisor_registers, virtual_registers}
 

@@ -1,4 +1,6 @@
--- Registers that show a part of another one, bit by bit.
+-- Registers that show a part of another one, bit by bit (RISC-V Privileged Architecture,
+-- "Supervisor Status Register", "Supervisor Interrupt Registers" and "Hypervisor Interrupt
+-- Registers").
 use Rattle.std.specs.Prelude.{◌≡◌, ◌≢◌, ℕ, ◌<◌, min, bit_and, List, [], ◌∷◌, All}
 use Rattle.std.specs.Int.{bit_at}
 use Rattle.guest_modes.specs.declared.registers.Priv.{Priv}

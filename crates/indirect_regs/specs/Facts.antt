@@ -1,4 +1,5 @@
--- What the unit of a hart and an access to a register keep to.
+-- What the unit of a hart and an access to a register keep to (RISC-V Control Transfer Records 1.0,
+-- "CSRs" and "Entry Registers").
 use Rattle.std.specs.Prelude.{ℕ, ◌^◌, ◌<◌, Result, Ok, Err}
 use Rattle.std.specs.Option.{IfSome}
 use Rattle.ctr_csrs.specs.declared.mode.Mode.{Mode}

@@ -1,4 +1,5 @@
--- Laws of accesses and of a monitor's port.
+-- Laws of accesses and of a monitor's port (RISC-V Control Transfer Records 1.0, "CSRs"; Privileged
+-- Architecture, "CSR Listing" and "Indirect CSR Access", for the numbers).
 use Rattle.std.specs.Prelude.{◌≡◌, ℕ, Ok}
 use Rattle.ctr_csrs.specs.declared.mode.Mode.{Mode}
 use Rattle.ctr_csrs.specs.declared.mode.Mode.TheVariants as modes

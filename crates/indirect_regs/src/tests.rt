@@ -11,6 +11,7 @@ fn unit() -> CtrUnit<ListStore> {
     CtrUnit::fresh(Depth::D16)
 }
 
+// RISC-V Control Transfer Records 1.0, "CSRs": the register figures.
 #[test]
 fn registers_of_the_records_keep_the_bits_of_their_table(rt: HostRuntime) {
     for (csr, fresh, ones) in [
@@ -72,6 +73,8 @@ fn registers_of_the_records_keep_the_bits_of_their_table(rt: HostRuntime) {
     }
 }
 
+// RISC-V Control Transfer Records 1.0, "Entry Registers"; Privileged Architecture, "Indirect CSR
+// Access".
 #[test]
 fn selects_name_entries_from_0x200_on(rt: HostRuntime) {
     for (select, answer, kept) in [
@@ -126,6 +129,7 @@ fn selects_name_entries_from_0x200_on(rt: HostRuntime) {
     }
 }
 
+// RISC-V Control Transfer Records 1.0, register sctrdepth.
 #[test]
 fn another_depth_empties_and_moves_the_pointer(rt: HostRuntime) {
     let mut unit = unit();
@@ -185,6 +189,7 @@ fn another_depth_empties_and_moves_the_pointer(rt: HostRuntime) {
     }
 }
 
+// RISC-V Control Transfer Records 1.0, register sctrstatus: WRPTR.
 #[test]
 fn the_write_pointer_turns_the_entries(rt: HostRuntime) {
     let mut unit = unit();
@@ -233,6 +238,8 @@ fn the_write_pointer_turns_the_entries(rt: HostRuntime) {
     }
 }
 
+// RISC-V Privileged Architecture, "Indirect CSR Access": vsiselect and vsireg; Control Transfer
+// Records 1.0, register vsctrctl.
 #[test]
 fn a_guest_reaches_registers_of_its_own(rt: HostRuntime) {
     let mut unit = unit();
@@ -276,6 +283,7 @@ fn a_guest_reaches_registers_of_its_own(rt: HostRuntime) {
     );
 }
 
+// RISC-V Unprivileged ISA, "Zicsr".
 #[test]
 fn set_and_clear_write_over_the_old_value(rt: HostRuntime) {
     let mut unit = unit();
@@ -338,6 +346,7 @@ impl CtrPort for Monitor {
     }
 }
 
+// RISC-V Control Transfer Records 1.0, "CSRs".
 #[test]
 fn a_monitor_reaches_the_unit_with_the_rights_of_m(rt: HostRuntime) {
     let mut port = Monitor {
@@ -377,6 +386,7 @@ fn entry_parts(port: &mut Monitor) -> (u64, u64, u64)
     (from, to, port.get(PortReg::Kind))
 }
 
+// RISC-V Control Transfer Records 1.0, "Entry Registers".
 #[test]
 fn a_monitor_reaches_the_entry_that_it_selects(rt: HostRuntime) {
     let mut port = Monitor {

@@ -1,4 +1,5 @@
--- Words of registers as signed numbers, and back.
+-- Words of registers as signed numbers, and back (RISC-V Unprivileged ISA, RV64I: two's
+-- complement).
 use Rattle.std.specs.Prelude.{ℕ, ℤ}
 use Rattle.std.specs.Int.{w32, w64, cast_signed, cast_unsigned}
 

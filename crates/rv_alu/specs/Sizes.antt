@@ -1,4 +1,4 @@
--- Every operation gives a word of 64 bits.
+-- Every operation gives a word of 64 bits (RISC-V Unprivileged ISA, RV64I: XLEN is 64).
 use Rattle.std.proofs.Common.{ℕ, ℤ, zero, suc, pos, negsuc, neg_ℤ, ◌*ℤ◌, ◌≤◌, ◌+◌, ◌-◌, ◌*◌, ◌/◌, ◌%◌, ◌^◌, ◌<◌, Bool, true, false, cond, nat_eq, ltb, int_lt, int_div, int_rem, arith, lit<, unsigned_abs}
 use Rattle.std.proofs.lemmas.Int.{ints, unsigned_abs-mul}
 use Rattle.std.proofs.lemmas.Nat.{and_le_l, or_lt, xor_lt, mod_below}

@@ -1,4 +1,4 @@
--- Laws of the table of instructions.
+-- Laws of the table of instructions (RISC-V Unprivileged ISA, "RV32/64G Instruction Set Listings").
 use Rattle.std.specs.Prelude.{ℕ, ◌≡◌, IfSome}
 use Rattle.rv_decode.specs.declared.instruction.Instr.{Instr}
 use Rattle.rv_decode.specs.Table.{table}

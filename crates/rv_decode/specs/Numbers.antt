@@ -1,4 +1,5 @@
--- The ranges of register numbers, of immediates of CSR instructions and of numbers of CSRs.
+-- The ranges of register numbers, of immediates of CSR instructions and of numbers of CSRs (RISC-V
+-- Unprivileged ISA, base instruction formats and "Zicsr").
 use Rattle.std.specs.Prelude.{◌<◌}
 use Rattle.rv_decode.specs.declared.instruction.Instr.{Instr}
 use Rattle.rv_decode.specs.declared.instruction.Instr.TheVariants.{Lui, Auipc, Jal, Jalr, Branch, Load, Store, AluImm, Alu, Csr, Fence, FenceI, Ecall, Ebreak, Mret, Sret, Wfi, CtrClr}

@@ -1,4 +1,5 @@
--- Which words are which instructions, by the table of instructions.
+-- Which words are which instructions, by the table of instructions (RISC-V Unprivileged ISA,
+-- "RV32/64G Instruction Set Listings").
 use Rattle.std.specs.Prelude.{ℕ, zero, suc, ◌≡◌, ◌⊎◌, List, [], ◌∷◌, Bool, true, cond, nat_eq, ◌&&◌, Option, None, Some}
 use Rattle.ctr_bits.specs.Field.{field_of}
 use Rattle.rv_decode.specs.declared.instruction.Instr.{Instr}

@@ -1,4 +1,6 @@
-// The words and their meanings are those that bench/decode_rows.py prints: LLVM's assembler made the words.
+// The words and their meanings are those that bench/decode_rows.py prints: LLVM's assembler made
+// the words (RISC-V Unprivileged ISA, "RV32/64G Instruction Set Listings"; Privileged Architecture
+// and Control Transfer Records 1.0 for MRET, SRET, WFI and SCTRCLR).
 use crate::{AluOp, Cond, CsrArg, CsrOp, Instr, Width, decode, table_laws, word_laws};
 
 #[test]

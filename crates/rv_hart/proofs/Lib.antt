@@ -6,3 +6,4 @@ mod TaskLemmas
 mod FactLemmas
 mod EndingLemmas
 mod RecordLemmas
+mod UnreturnedLemmas

@@ -28,7 +28,7 @@ use Rattle.rv_hart.specs.declared.outcome.Outcome.{Outcome}
 use Rattle.rv_hart.specs.declared.outcome.Outcome.TheVariants.{Goes, Returns, Raises}
 use Rattle.rv_hart.specs.Effect.{branches, even, goes_to, jump_of, jump_with, machine_return, raises, supervisor_return}
 use Rattle.rv_hart.specs.Ending.{decoded_ending, instruction_ending, interrupt_ending, outcome_ending, word_ending}
-use Rattle.rv_hart.specs.Executed.{HasEntry, IsKept, IsRecordOf, IsTransfer, TakesNoTrap, TransfersRecordThemselves, decoded_at, instruction_by}
+use Rattle.rv_hart.specs.Executed.{HasEntry, IsKept, IsRecordOf, IsTransfer, TakesNoTrap, TransfersRecordThemselves, decoded_at, instruction_by, is_taken}
 use Rattle.rv_hart.specs.Processor.{CoreState, plus, put, reg}
 use Rattle.rv_hart.specs.Step.{MachineState, by_effect, by_instruction, by_interrupt, by_word, concluded, executed, fetched, jump_transfer, raised, return_transfer, returned, went}
 use Rattle.rv_hart.specs.Transfers.{act_in, entry_of, events_by}
@@ -128,13 +128,12 @@ jump_parts misp (Some kind) jump is = (ap (λ (k : XferType). Some k) (ap kind_i
 -- the core d at which an instruction of c concludes has its program counter
 pub went_record : (i : Instr) (taken : Bool) (jump : Option Jump) (target : ℕ) (c d : CoreState) (u : UnitState) (e : Entry)
     → jump ≡ jump_of i taken → d.pc ≡ c.pc → HasEntry e (went jump target d u).events
-    → IsRecordOf i c.pc (went jump target d u).core.pc e
+    → IsRecordOf i taken c.pc (went jump target d u).core.pc e
 went_record i taken None target c d u e is same h = none_there e h
 went_record i taken (Some jump) target c d u e is same h =
     let x = carried_entry (jump_transfer jump target d) u e h in
     let parts = jump_parts (missed_of i taken) (type_of i taken) jump (sym is) in
     record {
-      taken = taken;
       kind = jump.kind;
       type = parts.0;
       from = x.from;
@@ -149,7 +148,8 @@ pub jump_record : (b : Bool) (i : Instr) (taken : Bool) (jump : Option Jump) (ta
     → jump ≡ jump_of i taken → d.pc ≡ c.pc
     → TakesNoTrap (outcome_ending (cond b (goes_to jump target d bytes) (raises 0 target c bytes)).outcome)
     → HasEntry e (by_effect (cond b (goes_to jump target d bytes) (raises 0 target c bytes)) u).events
-    → IsRecordOf i c.pc (by_effect (cond b (goes_to jump target d bytes) (raises 0 target c bytes)) u).core.pc e
+    → IsRecordOf i taken c.pc
+    (by_effect (cond b (goes_to jump target d bytes) (raises 0 target c bytes)) u).core.pc e
 jump_record true i taken jump target c d u bytes e is same calm h = went_record i taken jump target c d u e is same h
 jump_record false i taken jump target c d u bytes e is same calm h = absurd calm
 
@@ -157,18 +157,18 @@ pub branch_record : (way : Bool) (i : Instr) (taken : Bool) (jump : Option Jump)
     → jump ≡ jump_of i taken
     → TakesNoTrap (outcome_ending (branches way jump target c bytes).outcome)
     → HasEntry e (by_effect (branches way jump target c bytes) u).events
-    → IsRecordOf i c.pc (by_effect (branches way jump target c bytes) u).core.pc e
+    → IsRecordOf i taken c.pc (by_effect (branches way jump target c bytes) u).core.pc e
 branch_record true i taken jump target c u bytes e is calm h =
     jump_record (nat_eq (target % 4) 0) i taken jump target c c u bytes e is refl calm h
 branch_record false i taken jump target c u bytes e is calm h = went_record i taken jump (plus c.pc 4) c c u e is refl h
 
 -- a return
 pub return_record : (i : Instr) (ret : Ret) (c : CoreState) (u : UnitState) (e : Entry) → type_of i false ≡ Some types.TrapReturn
-    → missed_of i false ≡ false → HasEntry e (returned ret c u).events → IsRecordOf i c.pc (returned ret c u).core.pc e
+    → missed_of i false ≡ false → HasEntry e (returned ret c u).events
+    → IsRecordOf i false c.pc (returned ret c u).core.pc e
 return_record i ret c u e typed unmissed h =
     let x = carried_entry (return_transfer ret c) u e h in
     record {
-      taken = false;
       kind = types.TrapReturn;
       type = typed;
       from = x.from;
@@ -180,7 +180,7 @@ return_record i ret c u e typed unmissed h =
 
 pub outcome_record : (i : Instr) (o : Outcome) (c : CoreState) (u : UnitState) (e : Entry) → type_of i false ≡ Some types.TrapReturn
     → missed_of i false ≡ false → IsReturning o → TakesNoTrap (outcome_ending o) → HasEntry e (concluded o c u).events
-    → IsRecordOf i c.pc (concluded o c u).core.pc e
+    → IsRecordOf i false c.pc (concluded o c u).core.pc e
 outcome_record i (Goes jump pc) c u e typed unmissed returning calm h = absurd returning
 outcome_record i (Returns ret) c u e typed unmissed returning calm h = return_record i ret c u e typed unmissed h
 outcome_record i (Raises cause value) c u e typed unmissed returning calm h = absurd calm
@@ -201,7 +201,7 @@ sret_returns modes.Vu word = tt
 
 pub instruction_record : (i : Instr) (word : ℕ) (c : CoreState) (u : UnitState) (bytes : List ℕ) (e : Entry) → IsTransfer i
     → TakesNoTrap (instruction_ending i word c u bytes) → HasEntry e (executed i word c u bytes).events
-    → IsRecordOf i c.pc (executed i word c u bytes).core.pc e
+    → IsRecordOf i (is_taken c.x i) c.pc (executed i word c u bytes).core.pc e
 instruction_record (Jal rd off) word c u bytes e is calm h =
     let target = plus c.pc off in
     jump_record (nat_eq (target % 4) 0) (Jal rd off) false (jump_of (Jal rd off) false) target c (put c rd (plus c.pc 4)) u bytes e refl refl calm h
@@ -234,21 +234,23 @@ some_or other None = other
 
 pub decoded_record : (o : Option Instr) (word : ℕ) (s : MachineState) (i : Instr) (e : Entry) → o ≡ Some i → IsTransfer i
     → TakesNoTrap (decoded_ending o word s) → HasEntry e (by_instruction o word s).step.events
-    → IsRecordOf i s.core.pc (by_instruction o word s).step.core.pc e
+    → IsRecordOf i (is_taken s.core.x i) s.core.pc (by_instruction o word s).step.core.pc e
 decoded_record None word s i e is transfer calm h = absurd (cc is)
 decoded_record (Some k) word s i e is transfer calm h =
     let same : k ≡ i = ap (some_or k) is in
-    subst (λ (x : Instr). IsRecordOf x s.core.pc (by_instruction (Some k) word s).step.core.pc e) same
+    let after = (by_instruction (Some k) word s).step.core.pc in
+    subst (λ (x : Instr). IsRecordOf x (is_taken s.core.x x) s.core.pc after e) same
     (instruction_record k word s.core s.unit s.mem e (subst IsTransfer (sym same) transfer) calm h)
 
 pub word_record : (w : Option ℕ) (s : MachineState) (i : Instr) (e : Entry) → decoded_at w ≡ Some i → IsTransfer i
-    → TakesNoTrap (word_ending w s) → HasEntry e (by_word w s).step.events → IsRecordOf i s.core.pc (by_word w s).step.core.pc e
+    → TakesNoTrap (word_ending w s) → HasEntry e (by_word w s).step.events
+    → IsRecordOf i (is_taken s.core.x i) s.core.pc (by_word w s).step.core.pc e
 word_record None s i e is transfer calm h = absurd (cc is)
 word_record (Some word) s i e is transfer calm h = decoded_record (decoded word) word s i e is transfer calm h
 
 pub interrupt_record : (p : Option ℕ) (s : MachineState) (i : Instr) (e : Entry) → instruction_by p s ≡ Some i → IsTransfer i
     → TakesNoTrap (interrupt_ending p s) → HasEntry e (by_interrupt p s).step.events
-    → IsRecordOf i s.core.pc (by_interrupt p s).step.core.pc e
+    → IsRecordOf i (is_taken s.core.x i) s.core.pc (by_interrupt p s).step.core.pc e
 interrupt_record (Some cause) s i e is transfer calm h = absurd (cc is)
 interrupt_record None s i e is transfer calm h = word_record (fetched s) s i e is transfer calm h
 

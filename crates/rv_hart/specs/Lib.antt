@@ -1,5 +1,5 @@
--- What a reader must believe: Memory, Processor, Effect, Transfers, Step, Hart, Task and Lone, and the statements of
--- StepLaws, Ending, Executed and Facts.
+-- What a reader must believe: Memory, Processor, Effect, Transfers, Step, Hart, Task and Lone, and
+-- the statements of StepLaws, Ending, Executed, Facts and Unreturned.
 pub mod Memory
 pub mod Processor
 pub mod Effect
@@ -12,3 +12,4 @@ pub mod StepLaws
 pub mod Ending
 pub mod Executed
 pub mod Facts
+pub mod Unreturned

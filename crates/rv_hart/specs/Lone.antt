@@ -1,4 +1,6 @@
--- The lone run of a task: the state and the history after each number of steps on a hart of its own.
+-- The lone run of a task: the state and the history after each number of steps on a hart of its own
+-- (RISC-V Control Transfer Records 1.0; the first state as after a reset, Privileged Architecture,
+-- "Reset").
 use Rattle.std.specs.Prelude.{◌≡◌, ℕ, zero, suc, ◌+◌, List, [], ◌∷◌, ◌++◌, bit_and}
 use Rattle.ctr_csrs.specs.ControlFigure.{m_mask, s_mask}
 use Rattle.ctr_buffer.specs.declared.event.Event.{Event}

@@ -1,4 +1,5 @@
--- The memory of a task: bytes from the address 0x80000000 on.
+-- The memory of a task: bytes from the address 0x80000000 on (RISC-V Unprivileged ISA, RV64I,
+-- "Load and Store Instructions").
 use Rattle.std.specs.Prelude.{ℕ, ◌+◌, ◌-◌, ◌*◌, Bool, cond, nat_le, ◌&&◌, List, ◌++◌, length, replicate, take, drop, Option, Some, None}
 use Rattle.byteorder.specs.Endian.{little_number, little_bytes}
 use Rattle.ctr_bits.specs.Sext.{extended}

@@ -1,4 +1,6 @@
--- Laws of one step, in the words of the standards.
+-- Laws of one step, in the words of the standards (RISC-V Unprivileged ISA, "Exceptions, Traps, and
+-- Interrupts" and "Programmers' Model for Base Integer ISA"; Control Transfer Records 1.0, "Entry
+-- Registers").
 use Rattle.std.specs.Prelude.{◌≡◌, ℕ, ◌≤◌, List, length, slice_index}
 use Rattle.rv_decode.specs.declared.instruction.Instr.{Instr}
 use Rattle.rv_hart.specs.declared.outcome.Outcome.{Outcome}

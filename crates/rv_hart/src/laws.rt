@@ -7,6 +7,7 @@ ghost use Rattle.rv_hart.specs.Ending.{EndingsByMode, MonitorClearsAsSctrclr, Tr
 ghost use Rattle.rv_hart.specs.StepLaws.{ExceptionsWriteNothing, MemoryKeepsItsSize, NoStepChangesX0, AtMostOneEvent};
 ghost use Rattle.guest_modes.specs.Words.{IsWithin};
 ghost use Rattle.indirect_regs.specs.Unit.{IsUnit};
+ghost use Rattle.rv_hart.specs.Unreturned.{RecordsAreVisibleInRuns, ValidAreVisibleInRuns};
 ghost use Rattle.rv_hart.specs.Task.{Task, Irq, AreInterrupts, causes};
 ghost use Rattle.rv_hart.specs.Lone.{RunState, FollowsHistory, HaveSameState, StepsJoin, RunGoesOn, run_next, lone_run, first_state, after_steps};
 
@@ -29,7 +30,9 @@ pub fn step_laws()
     // A monitor's clear is SCTRCLR.
     ensures clear { MonitorClearsAsSctrclr }
 
-    // What is recorded of a jump, a branch or a return has its own address, the next one, and the type of the instruction.
+    // What is recorded of a jump, a branch or a return has its own address, the next one, and the
+    // type of the instruction; of a branch type and misprediction are those of its outcome, which
+    // is its condition on the registers before the step.
     ensures records { TransfersRecordThemselves }
 {}
 
@@ -58,7 +61,18 @@ pub fn lone_run_laws()
     // So many steps and then so many more are their sum, of every state and of a lone run.
     ensures join { StepsJoin }
     ensures goes_on { RunGoesOn }
-{}
+
+    // Where its software wrote neither WRPTR nor an entry since the buffer was emptied last, the
+    // entries with V of a lone run, in their order, are those that its history leaves unreturned.
+    ensures visible { ValidAreVisibleInRuns }
+
+    // And entry k has V and holds a record exactly if the history leaves that record k entries
+    // deep.
+    ensures visible_records { RecordsAreVisibleInRuns }
+{
+    fact_laws();
+    ctr_buffer::visible_laws();
+}
 
 /// What steps keep of the facts of a state, and what the history of a lone run holds: a proof and no work.
 pub fn fact_laws()

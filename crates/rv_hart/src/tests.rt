@@ -10,6 +10,9 @@ use std::process::Abort;
 mod endings;
 mod in_modes;
 
+// RISC-V Unprivileged ISA, RV64I and "Zicsr"; Privileged Architecture, "Machine Cause Register" and
+// "Machine Interrupt Registers".
+//
 // A program at 0x80000000 in a memory of 64 or 128 bytes, what is pending at its first step, how many steps it makes,
 // and what the hart holds after them. Registers and CSRs that aren't named aren't looked at.
 #[derive(Clone, Copy)]
@@ -371,6 +374,8 @@ fn check(rt: &impl Abort, alloc: Global, case: &Case) -> Result<(), NoMemory> {
     Ok(())
 }
 
+// RISC-V Control Transfer Records 1.0, "RAS Emulation Mode" and "Entry Registers".
+//
 // A program under mctrctl, and what sctrstatus and the youngest entry, by source, target and type, are after its steps.
 #[derive(Clone, Copy)]
 struct Recorded {

@@ -6,7 +6,9 @@ use ctr_csrs::Depth;
 use indirect_regs::{CtrPort, CtrUnit, PortReg};
 use std::process::Abort;
 
-// A branch that was mispredicted: MISP is bit 0 of the target word.
+// A branch that was mispredicted: MISP is bit 0 of the target word. The words are those of RISC-V
+// Control Transfer Records 1.0, "Entry Registers", and the numbers of a unit those of its
+// registers' figures.
 const MISSED: Slot = Slot {
     source: 0x101,
     target: 0x401,

@@ -1,4 +1,5 @@
-// Programs in all modes, with what they leave in the records.
+// Programs in all modes, with what they leave in the records (RISC-V Control Transfer Records 1.0,
+// "Privilege Mode Transitions", "Virtualization Mode Transitions" and "RAS Emulation Mode").
 use super::{memory, status, step};
 use crate::Hart;
 use ctr_buffer::ListStore;

@@ -1,5 +1,6 @@
 use Rattle.rv_hart.proofs.Lones.{lone_follows, next_follows, same_next, same_events, lone_state, steps_join, run_goes_on}
 use Rattle.rv_hart.proofs.TaskLemmas.{first_unit, causes_within}
+use Rattle.rv_hart.proofs.UnreturnedLemmas.{records_in_runs, valid_in_runs}
 use Rattle.rv_hart.proofs.laws.lone_run_laws.Goals as goal
 
 pub returns-clause-first : goal.returns-clause-first
@@ -28,3 +29,10 @@ returns-clause-join c = steps_join
 
 pub returns-clause-goes_on : goal.returns-clause-goes_on
 returns-clause-goes_on c = run_goes_on
+
+pub returns-clause-visible : goal.returns-clause-visible
+returns-clause-visible c = valid_in_runs c.visible_laws.ensures.valid c.fact_laws.ensures.history
+
+pub returns-clause-visible_records : goal.returns-clause-visible_records
+returns-clause-visible_records c =
+    records_in_runs c.visible_laws.ensures.held c.fact_laws.ensures.history
