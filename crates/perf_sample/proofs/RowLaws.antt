@@ -162,6 +162,7 @@ pub record IndexKept (layout : LayoutWords) (old new : Sample) : Type 0 where
   pub fits : Fits layout new
   pub range : IsSample old → InWidth (word_of place.HwIndex new) → IsSample new
   pub misc : new.misc ≡ old.misc
+  pub branches : new.branches ≡ old.branches
 
 record IndexSet (old new : Sample) : Type 0 where
   before : AllByRecursion (SameWord old new) before_nr
@@ -187,6 +188,7 @@ index_kept layout old new sets on f =
         branches = rw k.branches is.branches;
       };
       misc = k.misc;
+      branches = k.branches;
     }
 
 -- the hardware index, which is there
@@ -196,7 +198,7 @@ index_taken a b layout old new on f (bytes, took, holds, sets) =
     let kept = index_kept layout old new sets on f in
     let whole : fields_bytes new (fields_in layout (place.HwIndex ∷ [])) ≡ bytes =
     ap (fields_bytes new) (in_there layout place.HwIndex on) ∙ append-nil (place_bytes place.HwIndex new) ∙ holds in
-    (subst (Consumes a b) (sym whole) took, kept.fits, kept.before, kept.misc)
+    (subst (Consumes a b) (sym whole) took, kept.fits, kept.before, kept.misc, kept.branches)
 
 -- and which the layout leaves out
 pub index_left_out : (a : Option (List ℕ)) (layout : LayoutWords) (s : Sample) → has layout place.HwIndex ≡ false → Fits layout s → Consumes a a []
@@ -205,6 +207,7 @@ index_left_out a layout s off f took = (
   subst (Consumes a a) (sym (ap (fields_bytes s) (in_left_out layout place.HwIndex off))) took,
   f,
   (refl, (refl, (refl, (refl, (refl, (refl, (refl, (refl, (refl, tt))))))))),
+  refl,
   refl,
 )
 

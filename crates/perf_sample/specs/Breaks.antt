@@ -1,5 +1,5 @@
--- Where bytes break a layout: at the first field from the left that is broken (perf_event.h, PERF_RECORD_SAMPLE). Each field
--- has eight bytes.
+-- Where bytes break a layout: at the first field from the left that is broken (perf_event.h,
+-- PERF_RECORD_SAMPLE). Each field has eight bytes.
 use Rattle.std.specs.Prelude.{◌≡◌, ◌≢◌, ℕ, zero, suc, ◌+◌, ◌*◌, ◌-◌, ◌%◌, Bool, true, false, ◌&&◌, if◌then◌else◌, nat_eq, nat_le, nat_lt, List, [], ◌∷◌, ◌++◌, map, length, drop, Option, Some, None}
 use Rattle.byteorder.specs.Endian.{little_number}
 use Rattle.perf_sample.specs.Layout.{LayoutWords, all_fields, fields_in, fixed_len, nr_at}
@@ -9,14 +9,17 @@ use Rattle.perf_sample.specs.declared.faults.Place.TheVariants as place
 use Rattle.perf_sample.specs.declared.faults.SampleFault.{SampleFault}
 use Rattle.perf_sample.specs.declared.faults.SampleFault.TheVariants as fault
 
--- the number that the k bytes from a place on spell, the lowest first; closed, so that no goal spells it out
+-- the number that the k bytes from a place on spell, the lowest first; closed, so that no goal
+-- spells it out
 unfoldable pub number_at : ℕ → ℕ → List ℕ → ℕ
 number_at at k bytes = little_number k (drop at bytes)
 
 -- F + BRANCH_SIZE * k for a k from 0 to 256, with F the length of a sample without branches
 abbrev pub is_size : LayoutWords → ℕ → Bool
 is_size layout size =
-    nat_le (fixed_len layout) size && nat_le size (fixed_len layout + BRANCH_SIZE * 256) && nat_eq ((size - fixed_len layout) % BRANCH_SIZE) 0
+    nat_le (fixed_len layout) size
+    && nat_le size (fixed_len layout + BRANCH_SIZE * 256)
+    && nat_eq ((size - fixed_len layout) % BRANCH_SIZE) 0
 
 -- the header, or a field behind it
 pub data Field : Type 0 where
@@ -26,7 +29,8 @@ pub data Field : Type 0 where
 -- from, to and flags of so many branches, from this number on
 unfoldable pub branch_fields : ℕ → ℕ → List Field
 branch_fields i zero = []
-branch_fields i (suc n) = At (place.From i) ∷ At (place.To i) ∷ At (place.Flags i) ∷ branch_fields (suc i) n
+branch_fields i (suc n) =
+    At (place.From i) ∷ At (place.To i) ∷ At (place.Flags i) ∷ branch_fields (suc i) n
 
 -- all fields of a sample with so many branches, in their order
 unfoldable pub fields_of : LayoutWords → ℕ → List Field
@@ -41,22 +45,28 @@ abbrev pub unless : Bool → SampleFault → Option SampleFault → Option Sampl
 unless true f next = next
 unless false f next = Some f
 
--- the fault of a field's value, which stands at the front of the bytes: a sample of this size in its header
+-- the fault of a field's value, which stands at the front of the bytes: a sample of this size in
+-- its header
 abbrev pub wrong_in : LayoutWords → ℕ → Field → List ℕ → Option SampleFault
 wrong_in layout size Header bytes =
-    unless (nat_eq (number_at 0 4 bytes) PERF_RECORD_SAMPLE) fault.Kind (unless (is_size layout (number_at 6 2 bytes)) fault.Size None)
-wrong_in layout size (At place.Cpu) bytes = unless (nat_eq (number_at 4 4 bytes) 0) fault.CpuReserved None
+    unless (nat_eq (number_at 0 4 bytes) PERF_RECORD_SAMPLE) fault.Kind
+    (unless (is_size layout (number_at 6 2 bytes)) fault.Size None)
+wrong_in layout size (At place.Cpu) bytes =
+    unless (nat_eq (number_at 4 4 bytes) 0) fault.CpuReserved None
 wrong_in layout size (At place.Nr) bytes =
     unless (nat_le (number_at 0 8 bytes) 256) fault.Count
     (unless (nat_eq size (fixed_len layout + BRANCH_SIZE * number_at 0 8 bytes)) fault.Size None)
-wrong_in layout size (At (place.Flags i)) bytes = unless (nat_lt (number_at 0 8 bytes) FIRST_RESERVED) (fault.FlagReserved i) None
+wrong_in layout size (At (place.Flags i)) bytes =
+    unless (nat_lt (number_at 0 8 bytes) FIRST_RESERVED) (fault.FlagReserved i) None
 wrong_in layout size (At p) bytes = None
 
 -- the fault of a field at the front of the bytes, if it is broken
 abbrev pub fault_in : LayoutWords → ℕ → Field → List ℕ → Option SampleFault
-fault_in layout size field bytes = if nat_lt (length bytes) 8 then Some (cut_in field) else wrong_in layout size field bytes
+fault_in layout size field bytes =
+    if nat_lt (length bytes) 8 then Some (cut_in field) else wrong_in layout size field bytes
 
-abbrev pub or_on : Option SampleFault → List ℕ → Option (SampleFault × List ℕ) → Option (SampleFault × List ℕ)
+abbrev pub or_on : Option SampleFault → List ℕ → Option (SampleFault × List ℕ)
+    → Option (SampleFault × List ℕ)
 or_on (Some f) rest next = Some (f, rest)
 or_on None rest next = next
 
@@ -64,14 +74,18 @@ or_on None rest next = next
 unfoldable pub first_of : LayoutWords → ℕ → List Field → List ℕ → Option (SampleFault × List ℕ)
 first_of layout size [] bytes = None
 first_of layout size (field ∷ fields) bytes =
-    or_on (fault_in layout size field bytes) (drop 8 bytes) (first_of layout size fields (drop 8 bytes))
+    or_on (fault_in layout size field bytes) (drop 8 bytes)
+    (first_of layout size fields (drop 8 bytes))
 
--- the same of all fields of a sample. The header tells the size, and a field behind it how many branches there are
+-- the same of all fields of a sample. The header tells the size, and a field behind it how many
+-- branches there are
 unfoldable pub first_break : LayoutWords → List ℕ → Option (SampleFault × List ℕ)
 first_break layout bytes =
-    first_of layout (number_at 6 2 bytes) (fields_of layout (number_at (nr_at layout) 8 bytes)) bytes
+    first_of layout (number_at 6 2 bytes) (fields_of layout (number_at (nr_at layout) 8 bytes))
+    bytes
 
 -- the bytes break the layout with this fault; the rest follows the broken field
-pub record Breaks (layout : LayoutWords) (bytes : List ℕ) (f : SampleFault) (rest : List ℕ) : Type 0 where
+pub record Breaks (layout : LayoutWords) (bytes : List ℕ) (f : SampleFault) (rest : List ℕ)
+    : Type 0 where
   pub some : bytes ≢ []
   pub first : first_break layout bytes ≡ Some (f, rest)

@@ -7,7 +7,8 @@ use Rattle.perf_sample.specs.Breaks.{Breaks}
 use Rattle.perf_sample.specs.Range.{IsSample}
 use Rattle.perf_sample.specs.Layout.{LayoutWords}
 
--- the bytes begin with the spelling of one sample whose numbers lie in the widths of their fields, and with no other spelling
+-- the bytes begin with the spelling of one sample whose numbers lie in the widths of their fields,
+-- and with no other spelling
 pub record IsSpelled (layout : LayoutWords) (bytes : List ℕ) : Type 0 where
   pub sample : Sample
   pub spelled : List ℕ
@@ -15,7 +16,8 @@ pub record IsSpelled (layout : LayoutWords) (bytes : List ℕ) : Type 0 where
   pub range : IsSample sample
   pub spells : Spells layout sample spelled
   pub front : bytes ≡ spelled ++ rest
-  pub alone : (s : Sample) (x z : List ℕ) → Spells layout s x → bytes ≡ x ++ z → (x ≡ spelled) × (IsSample s → s ≡ sample)
+  pub alone : (s : Sample) (x z : List ℕ) → Spells layout s x → bytes ≡ x ++ z → (x ≡ spelled)
+      × (IsSample s → s ≡ sample)
 
 -- the bytes break the layout with one fault, at one field
 pub record IsBroken (layout : LayoutWords) (bytes : List ℕ) : Type 0 where

@@ -5,8 +5,9 @@ use Rattle.perf_sample.specs.PerfType.{perf_type_of}
 use Rattle.perf_sample.specs.declared.flags.TheConstants.{MISPRED, PREDICTED, TYPE}
 use Rattle.perf_sample.specs.declared.sample.Branch.{Branch}
 
--- the transfer types (RISC-V Control Transfer Records 1.0) whose direction or target a processor predicts: branches not taken
--- and taken, indirect calls, indirect jumps, a co-routine swap, returns, and other indirect jumps with linkage
+-- the transfer types (RISC-V Control Transfer Records 1.0) whose direction or target a processor
+-- predicts: branches not taken and taken, indirect calls, indirect jumps, a co-routine swap,
+-- returns, and other indirect jumps with linkage
 abbrev pub predicted_types : List ℕ
 predicted_types = 4 ∷ 5 ∷ 8 ∷ 10 ∷ 12 ∷ 13 ∷ 14 ∷ []
 
@@ -19,8 +20,10 @@ prediction true = MISPRED
 prediction false = PREDICTED
 
 abbrev pub transfer_flags : ℕ → Bool → ℕ
-transfer_flags kind mispredicted = TYPE * perf_type_of kind + (if is_predicted kind then prediction mispredicted else 0)
+transfer_flags kind mispredicted =
+    TYPE * perf_type_of kind + (if is_predicted kind then prediction mispredicted else 0)
 
 -- the branch of a transfer of this type between two addresses
 abbrev pub transfer_branch : ℕ → ℕ → ℕ → Bool → Branch
-transfer_branch from to kind mispredicted = record { from = from; to = to; flags = transfer_flags kind mispredicted }
+transfer_branch from to kind mispredicted =
+    record { from = from; to = to; flags = transfer_flags kind mispredicted }

@@ -1,4 +1,5 @@
--- Which fields a sample has (`perf_event.h`, struct perf_event_attr), and which samples a layout can hold.
+-- Which fields a sample has (`perf_event.h`, struct perf_event_attr), and which samples a layout
+-- can hold.
 use Rattle.std.specs.Prelude.{◌≡◌, ℕ, ◌+◌, ◌*◌, ◌/◌, ◌%◌, ◌^◌, ◌<◌, Bool, true, false, not, ◌&&◌, ◌||◌, if◌then◌else◌, nat_eq, bit_and, List, [], ◌∷◌, ◌++◌, length, All}
 use Rattle.std.specs.List.{AllByRecursion}
 use Rattle.perf_sample.specs.Words.{word_of, IsZero}
@@ -52,7 +53,8 @@ has layout _ = true
 -- the fields before the number of branches, in their order
 abbrev pub before_nr : List Place
 before_nr =
-    place.Identifier ∷ place.Ip ∷ place.Tid ∷ place.Time ∷ place.Addr ∷ place.Id ∷ place.StreamId ∷ place.Cpu ∷ place.Period ∷ []
+    place.Identifier ∷ place.Ip ∷ place.Tid ∷ place.Time ∷ place.Addr ∷ place.Id
+    ∷ place.StreamId ∷ place.Cpu ∷ place.Period ∷ []
 
 -- the fields between the header and the branches, in their order
 abbrev pub all_fields : List Place

@@ -50,7 +50,8 @@ Holds (place.To i) bytes s = Unit {0}
 Holds (place.Flags i) bytes s = Unit {0}
 Holds p bytes s = place_bytes p s ≡ bytes
 
--- what the bytes of a field say is in the sample, or they are those of cpu with a reserved half that isn't 0
+-- what the bytes of a field say is in the sample, or they are those of cpu with a reserved half
+-- that isn't 0
 abbrev pub PutsIn : Place → List ℕ → Sample → Sample → Result (Unit {0}) SampleFault → Type 0
 PutsIn p bytes old new (Ok _) = Holds p bytes new × SetsOnly p old new
 PutsIn p bytes old new (Err f) =
@@ -63,29 +64,38 @@ PutsIn p bytes old new (Err f) =
     × (reserved < 2 ^ 32)
 
 -- a field was taken
-abbrev pub TakesRow : Place → Option (List ℕ) → Option (List ℕ) → Sample → Sample → Result (Unit {0}) SampleFault → Type 0
-TakesRow p left left' old new (Ok _) = (bytes : List ℕ) × Consumes left left' bytes × Holds p bytes new × SetsOnly p old new
-TakesRow p left left' old new (Err f) = (layout : LayoutWords) (size : ℕ) → Stopped (first_of layout size (At p ∷ [])) left left' f
+abbrev pub TakesRow : Place → Option (List ℕ) → Option (List ℕ) → Sample → Sample
+    → Result (Unit {0}) SampleFault → Type 0
+TakesRow p left left' old new (Ok _) =
+    (bytes : List ℕ) × Consumes left left' bytes × Holds p bytes new × SetsOnly p old new
+TakesRow p left left' old new (Err f) =
+    (layout : LayoutWords) (size : ℕ) → Stopped (first_of layout size (At p ∷ [])) left left' f
 
--- the fields before the number of branches that the layout has were taken, and nothing else of the sample changed
-abbrev pub TakesRows : LayoutWords → Option (List ℕ) → Option (List ℕ) → Sample → Sample → Result (Unit {0}) SampleFault → Type 0
+-- the fields before the number of branches that the layout has were taken, and nothing else of the
+-- sample changed
+abbrev pub TakesRows : LayoutWords → Option (List ℕ) → Option (List ℕ) → Sample → Sample
+    → Result (Unit {0}) SampleFault → Type 0
 TakesRows layout left left' old new (Ok _) =
     Consumes left left' (fields_bytes new (fields_in layout before_nr))
     × Fits layout new
     × (new.misc ≡ old.misc)
     × (new.branches ≡ old.branches)
-TakesRows layout left left' old new (Err f) = (size : ℕ) → Stopped (first_of layout size (map At (fields_in layout before_nr))) left left' f
+TakesRows layout left left' old new (Err f) =
+    (size : ℕ) → Stopped (first_of layout size (map At (fields_in layout before_nr))) left left' f
 
 -- two samples have the same word in a field
 abbrev pub SameWord : Sample → Sample → Place → Type 0
 SameWord s t p = word_of p s ≡ word_of p t
 
 -- the hardware index was taken where the layout has it, and nothing else of the sample changed
-abbrev pub TakesHwIndex : LayoutWords → Option (List ℕ) → Option (List ℕ) → Sample → Sample → Result (Unit {0}) SampleFault → Type 0
+abbrev pub TakesHwIndex : LayoutWords → Option (List ℕ) → Option (List ℕ) → Sample → Sample
+    → Result (Unit {0}) SampleFault → Type 0
 TakesHwIndex layout left left' old new (Ok _) =
     Consumes left left' (fields_bytes new (fields_in layout (place.HwIndex ∷ [])))
     × Fits layout new
     × AllByRecursion (SameWord old new) before_nr
     × (new.misc ≡ old.misc)
+    × (new.branches ≡ old.branches)
 TakesHwIndex layout left left' old new (Err f) =
-    (size : ℕ) → Stopped (first_of layout size (map At (fields_in layout (place.HwIndex ∷ [])))) left left' f
+    (size : ℕ)
+    → Stopped (first_of layout size (map At (fields_in layout (place.HwIndex ∷ [])))) left left' f

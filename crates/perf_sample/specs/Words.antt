@@ -1,4 +1,5 @@
--- What the fields of a sample between its header and its branches hold (`perf_event.h`, PERF_RECORD_SAMPLE).
+-- What the fields of a sample between its header and its branches hold (`perf_event.h`,
+-- PERF_RECORD_SAMPLE).
 use Rattle.std.specs.Prelude.{◌≡◌, ◌^◌, ◌<◌, length}
 use Rattle.perf_sample.specs.declared.faults.Place.{Place}
 use Rattle.perf_sample.specs.declared.faults.Place.TheVariants as place

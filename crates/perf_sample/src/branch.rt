@@ -1,6 +1,6 @@
 //! A branch, read field by field.
 
-ghost use Rattle.std.specs.Prelude.{◌≡◌, ◌≤◌, All, IfOk};
+ghost use Rattle.std.specs.Prelude.{◌≡◌, ◌≤◌, [], All, IfOk};
 ghost use Rattle.ctr_port.specs.Counts.{HasCause};
 ghost use Rattle.perf_sample.specs.BranchRange.{IsBranch};
 ghost use Rattle.perf_sample.specs.Reading.{is_read, TakesPlace, TakesNumber, TakesBranch, TakesBranches, TakesNr};
@@ -38,6 +38,7 @@ pub(crate) fn read_number<S: Source>(source: &mut S, place: Place) -> Result<u64
 }
 
 /// Reads the branch of this number.
+#[inline(always)]
 pub(crate) fn read_branch<S: Source>(source: &mut S, number: u16) -> Result<Branch, SampleFault>
     ensures takes { TakesBranch number (S.left source.old) (S.left source.new) result }
     ensures range { IfOk result IsBranch }
@@ -52,19 +53,24 @@ pub(crate) fn read_branch<S: Source>(source: &mut S, number: u16) -> Result<Bran
     Ok(Branch { from, to, flags })
 }
 
-/// Reads so many branches, youngest first.
-pub(crate) fn read_branches<S: Source>(source: &mut S, nr: u16) -> Result<Branches, SampleFault>
-    requires { nr ≤ 256 }
-    ensures takes { TakesBranches nr (S.left source.old) (S.left source.new) result }
-    ensures range { IfOk result (All IsBranch) }
+/// Reads so many branches, youngest first, into a list that has none yet.
+#[inline(always)]
+pub(crate) fn read_branches<S: Source>(
+    source: &mut S,
+    nr: u16,
+    branches: &mut Branches,
+) -> Result<(), SampleFault>
+    requires few { nr ≤ 256 }
+    requires none { branches.old ≡ [] }
+    ensures takes { TakesBranches nr (S.left source.old) (S.left source.new) branches.new result }
+    ensures range { All IsBranch branches.new }
     ensures cause { HasCause is_read (S.faults source.old) (S.faults source.new) result }
 {
-    let mut branches = Branches::new();
     for number in 0..nr {
         let branch = read_branch(source, number)?;
         branches.push(branch);
     }
-    Ok(branches)
+    Ok(())
 }
 
 /// Reads how many branches a sample of this size has.

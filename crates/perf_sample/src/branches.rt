@@ -27,6 +27,7 @@ impl Model for Branches {
 
 impl Branches {
     /// No branch.
+    #[inline(always)]
     pub fn new() -> Self
         ensures { result ≡ [] }
     {

@@ -23,7 +23,8 @@ pub enum Place {
     Flags(u16),
 }
 
-/// Why there is no further sample: the first field from the left that is broken, or one of the last two.
+/// Why there is no further sample: the first field from the left that is broken, or one of the last
+/// two.
 #[derive(Clone, Copy, Debug, PartialEq, Eq)]
 pub enum SampleFault {
     /// The input ended after 1 to 7 bytes of the header.
@@ -42,6 +43,7 @@ pub enum SampleFault {
     FlagReserved(u16),
     /// 2^24 samples were given, and the input goes on.
     TooMany,
-    /// A read failed. It comes only where the source's count of faults rose in the call that first gave it.
+    /// A read failed. It comes only where the source's count of faults rose in the call that first
+    /// gave it.
     ReadFault,
 }

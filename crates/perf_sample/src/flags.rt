@@ -61,9 +61,10 @@ fn prediction(mispredicted: bool) -> u64
 }
 
 impl Branch {
-    /// The branch of a transfer between two addresses, by the field TYPE of its record (RISC-V Control Transfer Records 1.0,
-    /// transfer types), which is below 16, and by whether it was mispredicted. Branches, calls, jumps and returns whose
-    /// direction or target a processor predicts have the flag mispred or predicted; other transfers have neither.
+    /// The branch of a transfer between two addresses, by the field TYPE of its record (RISC-V
+    /// Control Transfer Records 1.0, transfer types), which is below 16, and by whether it was
+    /// mispredicted. Branches, calls, jumps and returns whose direction or target a processor
+    /// predicts have the flag mispred or predicted; other transfers have neither.
     pub fn of_transfer(from: u64, to: u64, kind: u8, mispredicted: bool) -> Branch
         requires { kind < 16 }
         ensures branch { result ≡ transfer_branch from to kind mispredicted }

@@ -44,7 +44,8 @@ const KNOWN: u64 = 0x10BCF;
 /// PERF_SAMPLE_BRANCH_STACK, which every layout has.
 const BRANCH_STACK: u64 = 0x800;
 
-/// Which fields a sample has, as the words of `perf_event.h`, struct perf_event_attr. Contracts see these words.
+/// Which fields a sample has, as the words of `perf_event.h`, struct perf_event_attr. Contracts see
+/// these words.
 #[derive(Clone, Copy, Debug, PartialEq, Eq)]
 pub struct Layout {
     bits: u64,
@@ -64,7 +65,8 @@ impl Model for Layout {
 }
 
 impl Layout {
-    /// The layout with these bits, where each of them is a field that is known here, and the branch stack is among them.
+    /// The layout with these bits, where each of them is a field that is known here, and the branch
+    /// stack is among them.
     pub fn of(bits: u64) -> Option<Layout>
         ensures some { IfSome result (λ layout. layout ≡ of_sample_type bits) }
         ensures none { IsNone result ↔ (IsLayout bits → ⊥) }
@@ -115,8 +117,9 @@ impl Layout {
         (self.bits >> bit) % 2 == 1
     }
 
-    // Whether the layout has a field (enum perf_event_sample_format).
-    pub(crate) fn has(self, place: Place) -> bool
+    /// Whether the layout has a field (enum perf_event_sample_format); the number of branches, and the fields of a branch,
+    /// are in each layout.
+    pub fn has(self, place: Place) -> bool
         ensures { result ≡ has self place }
     {
         match place {
@@ -134,8 +137,9 @@ impl Layout {
         }
     }
 
-    // The length of a sample without branches, in bytes.
-    pub(crate) fn fixed_len(self) -> u16
+    /// The length of a sample without branches, in bytes: 8 for the header, and 8 for each field
+    /// between it and the branches.
+    pub fn fixed_len(self) -> u16
         ensures len { result ≡ fixed_len self }
         ensures most { result ≤ 96 }
     {
@@ -156,7 +160,8 @@ impl Layout {
         size >= fixed && size <= fixed + BRANCH_SIZE * 256 && (size - fixed) % BRANCH_SIZE == 0
     }
 
-    // Whether a field has a value that the layout lets it have: any where it is there, 0 where it is left out.
+    // Whether a field has a value that the layout lets it have: any where it is there, 0 where it
+    // is left out.
     fn takes(self, sample: &Sample, place: Place) -> bool
         ensures { IsTrue result ↔ LeftOut self sample.now place }
     {
@@ -175,7 +180,8 @@ impl Layout {
         true
     }
 
-    /// Whether a sample can be written in this layout: each field that is left out is 0, and no branch has a reserved flag.
+    /// Whether a sample can be written in this layout: each field that is left out is 0, and no
+    /// branch has a reserved flag.
     pub fn fits(self, sample: &Sample) -> bool
         ensures { IsTrue result ↔ Fits self sample.now }
     {

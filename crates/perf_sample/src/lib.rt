@@ -1,7 +1,9 @@
-//! Perf samples with branch stacks, as values and as bytes: the record PERF_RECORD_SAMPLE of Linux `perf_event.h`.
+//! Perf samples with branch stacks, as values and as bytes: the record PERF_RECORD_SAMPLE of Linux
+//! `perf_event.h`.
 //!
-//! A layout says which fields a sample has. `encode` writes a sample as the one spelling that its layout gives it, and a
-//! `SampleReader` reads a stream of them, or answers the first field that is broken.
+//! A layout says which fields a sample has. `encode` writes a sample as the one spelling that its
+//! layout gives it, and a `SampleReader` reads a stream of them, or answers the first field that is
+//! broken.
 #![tactic(auto)]
 
 mod branch;

@@ -22,8 +22,8 @@ use std::marker::Model;
 /// How many samples a reader gives.
 const MOST: u32 = 1 << 24;
 
-/// A reader of a bare stream of samples of one layout, which gives at most 2^24 of them. After a fault each call answers it
-/// again.
+/// A reader of a bare stream of samples of one layout, which gives at most 2^24 of them. After a
+/// fault each call answers it again.
 #[derive(Drop)]
 pub struct SampleReader {
     layout: Layout,
@@ -39,7 +39,13 @@ impl Model for SampleReader {
 
     ghost Value = { Reader };
 
-    ghost view = { λ r. record { layout = r.layout; refused = r.refused; given = r.given; taken = r.taken; offset = r.offset } };
+    ghost view = { λ r. record {
+      layout = r.layout;
+      refused = r.refused;
+      given = r.given;
+      taken = r.taken;
+      offset = r.offset;
+    } };
 
     ghost invariant = { λ r. (r.given ≤ 16777216) × (r.taken ≤ 6240 * r.given) };
 }
@@ -54,7 +60,8 @@ fn length_of(layout: Layout, sample: &Sample) -> u64
 
 // Looks for a byte behind the last sample that is given.
 fn look_past<S: Source>(source: &mut S) -> Result<Option<Sample>, SampleFault>
-    ensures nexted { (layout : LayoutWords) → Nexted layout most (S.left source.old) (S.left source.new) result }
+    ensures nexted { (layout : LayoutWords)
+        → Nexted layout most (S.left source.old) (S.left source.new) result }
     ensures none { IfOk result (λ next. next ≡ None) }
     ensures cause { HasCause is_read (S.faults source.old) (S.faults source.new) result }
 {
@@ -98,8 +105,8 @@ impl SampleReader {
         }
     }
 
-    /// The place of the first byte of the sample last begun, counted from the first byte that was read; 0 before the first. A
-    /// call that answers a fault has begun one.
+    /// The place of the first byte of the sample last begun, counted from the first byte that was
+    /// read; 0 before the first. A call that answers a fault has begun one.
     pub fn offset(&self) -> u64
         ensures { result ≡ self.now.offset }
     {
@@ -108,7 +115,8 @@ impl SampleReader {
 
     // The next answer of a reader that has refused nothing.
     fn answer<S: Source>(&mut self, source: &mut S) -> Result<Option<Sample>, SampleFault>
-        ensures nexted { Nexted self.old.layout self.old.given (S.left source.old) (S.left source.new) result }
+        ensures nexted { Nexted self.old.layout self.old.given (S.left source.old)
+            (S.left source.new) result }
         ensures range { IfOk result (λ next. IfSome next IsSample) }
         ensures after { self.new ≡ after self.old result }
         ensures cause { HasCause is_read (S.faults source.old) (S.faults source.new) result }
@@ -131,22 +139,30 @@ impl SampleReader {
         }
     }
 
-    /// The next sample, or none where the input ended between two samples. It reads field by field, and asks the source for no
-    /// byte beyond the field in hand. After a fault it answers it again, without a read.
+    /// The next sample, or none where the input ended between two samples. It reads field by field,
+    /// and asks the source for no byte beyond the field in hand. After a fault it answers it again,
+    /// without a read.
     pub fn next<S: Source>(&mut self, source: &mut S) -> Result<Option<Sample>, SampleFault>
-        ensures nexted { self.old.refused ≡ None → Nexted self.old.layout self.old.given (S.left source.old) (S.left source.new) result }
+        ensures nexted { self.old.refused ≡ None
+            → Nexted self.old.layout self.old.given (S.left source.old) (S.left source.new) result }
         ensures after { self.old.refused ≡ None → self.new ≡ after self.old result }
-        ensures again { (fault : SampleFault) → self.old.refused ≡ Some fault → (result ≡ Err fault) × (self.new ≡ self.old) × (source.new ≡ source.old) }
-        ensures cause { self.old.refused ≡ None → HasCause is_read (S.faults source.old) (S.faults source.new) result }
+        ensures again { (fault : SampleFault) → self.old.refused ≡ Some fault
+            → (result ≡ Err fault) × (self.new ≡ self.old) × (source.new ≡ source.old) }
+        ensures cause { self.old.refused ≡ None
+            → HasCause is_read (S.faults source.old) (S.faults source.new) result }
         // The numbers of a sample lie in the widths of their fields, whatever the source is.
         ensures range { IfOk result (λ next. IfSome next IsSample) }
         // Of a source that tells its bytes each answer comes wherever its cause is there.
-        ensures none { self.old.refused ≡ None → S.left source.old ≡ Some [] → Answers result (Ok None) }
-        ensures sample { (s : Sample) (bytes rest : List ℕ) → self.old.refused ≡ None → self.old.given < most → IsSample s → Spells self.old.layout s bytes
+        ensures none { self.old.refused ≡ None → S.left source.old ≡ Some []
+            → Answers result (Ok None) }
+        ensures sample { (s : Sample) (bytes rest : List ℕ) → self.old.refused ≡ None
+            → self.old.given < most → IsSample s → Spells self.old.layout s bytes
             → S.left source.old ≡ Some (bytes ++ rest) → Answers result (Ok (Some s)) }
-        ensures broken { (fault : SampleFault) (bytes rest : List ℕ) → self.old.refused ≡ None → self.old.given < most → Breaks self.old.layout bytes fault rest
+        ensures broken { (fault : SampleFault) (bytes rest : List ℕ) → self.old.refused ≡ None
+            → self.old.given < most → Breaks self.old.layout bytes fault rest
             → S.left source.old ≡ Some bytes → Answers result (Err fault) }
-        ensures too_many { (byte : ℕ) (rest : List ℕ) → self.old.refused ≡ None → self.old.given ≡ most → S.left source.old ≡ Some (byte ∷ rest)
+        ensures too_many { (byte : ℕ) (rest : List ℕ) → self.old.refused ≡ None
+            → self.old.given ≡ most → S.left source.old ≡ Some (byte ∷ rest)
             → Answers result (Err SampleFault.TooMany) }
     {
         if let Some(fault) = self.refused {

@@ -7,7 +7,11 @@ use std::alloc::Global;
 use std::process::Abort;
 use std::test::*;
 
-// A sample of which the byte at a place is replaced, and so many bytes are there: the fault that a reader answers.
+// The places of the fields are those of `perf_event.h`: the record PERF_RECORD_SAMPLE, and struct
+// perf_branch_entry.
+
+// A sample of which the byte at a place is replaced, and so many bytes are there: the fault that a
+// reader answers.
 type Wrong = (usize, u8, usize, SampleFault);
 
 // A sample of which so many bytes are there.
@@ -160,7 +164,8 @@ impl Source for Counted {
     }
 }
 
-// Reads all samples that are left: how many there are, the fault after them if there is one, and the offset then.
+// Reads all samples that are left: how many there are, the fault after them if there is one, and
+// the offset then.
 fn read_all<S: Source>(
     reader: &mut SampleReader,
     source: &mut S,
@@ -180,7 +185,8 @@ fn read_all<S: Source>(
     (samples, None, reader.offset())
 }
 
-// After so many samples, which have so many bytes together, there is a fault, and it is told again without a read.
+// After so many samples, which have so many bytes together, there is a fault, and it is told again
+// without a read.
 fn refused(
     rt: &impl Abort,
     alloc: Global,
@@ -460,7 +466,8 @@ fn are_same(rt: &impl Abort, sample: &Sample, other: &Sample, layout: u64) {
     );
 }
 
-// Samples with so many branches each are written one after another and read back, in pieces of this length.
+// Samples with so many branches each are written one after another and read back, in pieces of this
+// length.
 fn come_back(
     rt: &impl Abort,
     alloc: Global,
@@ -579,7 +586,8 @@ fn a_fault_is_told_again_without_a_read(rt: HostRuntime) -> Result<(), Fail> {
     let mut bytes = Vec::from_slice(rt.alloc(), &ONE_CALL)?;
     bytes.extend_from_slice(&ONE_CALL)?;
     bytes[62] = 0x40; // size 64
-    // A sample is seven reads, and the header of the next one the eighth, number 7. Number 8 is to fail.
+    // A sample is seven reads, and the header of the next one the eighth, number 7. Number 8 is to
+    // fail.
     let mut source = MemSource::new(rt.alloc(), &bytes, &[], &[8])?;
     let mut reader = SampleReader::new(layout);
     assert_eq!(rt; step(&mut reader, &mut source), (Ok(Some(1)), 0));
@@ -620,8 +628,8 @@ fn a_failing_read_is_told_and_told_again(rt: HostRuntime) -> Result<(), Fail> {
     Ok(())
 }
 
-// The smallest samples, those of the layout 800 with no branches: so many fields, a header and the number of branches in turn. A
-// byte may follow them.
+// The smallest samples, those of the layout 800 with no branches: so many fields, a header and the
+// number of branches in turn. A byte may follow them.
 #[derive(Drop)]
 struct Smallest {
     fields: u32,

@@ -14,7 +14,8 @@ use crate::numbers::{halves, number};
 use crate::sample::Sample;
 use ctr_port::Source;
 
-// Puts the bytes of a field into the sample. The number of branches and the fields of a branch have no place of their own in it.
+// Puts the bytes of a field into the sample. The number of branches and the fields of a branch have
+// no place of their own in it.
 fn put_in(sample: &mut Sample, place: Place, bytes: &[u8; 8]) -> Result<(), SampleFault>
     ensures puts { PutsIn place bytes.now sample.old sample.new result }
     ensures range { IsSample sample.old → IsSample sample.new }
@@ -46,8 +47,10 @@ fn put_in(sample: &mut Sample, place: Place, bytes: &[u8; 8]) -> Result<(), Samp
 }
 
 // Reads a field into the sample.
+#[inline(always)]
 fn read_row<S: Source>(source: &mut S, place: Place, sample: &mut Sample) -> Result<(), SampleFault>
-    ensures takes { TakesRow place (S.left source.old) (S.left source.new) sample.old sample.new result }
+    ensures takes { TakesRow place (S.left source.old) (S.left source.new) sample.old sample.new
+        result }
     ensures range { IsSample sample.old → IsSample sample.new }
     ensures cause { HasCause is_read (S.faults source.old) (S.faults source.new) result }
 {
@@ -62,7 +65,8 @@ pub(crate) fn read_rows<S: Source>(
     sample: &mut Sample,
 ) -> Result<(), SampleFault>
     requires { Fits layout sample.old }
-    ensures takes { TakesRows layout (S.left source.old) (S.left source.new) sample.old sample.new result }
+    ensures takes { TakesRows layout (S.left source.old) (S.left source.new) sample.old sample.new
+        result }
     ensures range { IsSample sample.old → IsSample sample.new }
     ensures cause { HasCause is_read (S.faults source.old) (S.faults source.new) result }
 {
@@ -81,7 +85,8 @@ pub(crate) fn read_hw_index<S: Source>(
     sample: &mut Sample,
 ) -> Result<(), SampleFault>
     requires { Fits layout sample.old }
-    ensures takes { TakesHwIndex layout (S.left source.old) (S.left source.new) sample.old sample.new result }
+    ensures takes { TakesHwIndex layout (S.left source.old) (S.left source.new) sample.old
+        sample.new result }
     ensures range { IsSample sample.old → IsSample sample.new }
     ensures cause { HasCause is_read (S.faults source.old) (S.faults source.new) result }
 {

@@ -12,8 +12,9 @@ pub struct Branch {
     pub from: u64,
     /// The address that it went to.
     pub to: u64,
-    /// Bits 0 to 32 of the entry's third word: mispred 0, predicted 1, in_tx 2, abort 3, cycles 4 to 19,
-    /// type 20 to 23, spec 24 and 25, new_type 26 to 29, priv 30 to 32. The bits from 33 up are reserved, and 0.
+    /// Bits 0 to 32 of the entry's third word: mispred 0, predicted 1, in_tx 2, abort 3, cycles 4
+    /// to 19, type 20 to 23, spec 24 and 25, new_type 26 to 29, priv 30 to 32. The bits from 33 up
+    /// are reserved, and 0.
     pub flags: u64,
 }
 
@@ -49,7 +50,9 @@ pub struct Sample {
 }
 
 impl Sample {
-    /// The sample whose numbers are 0, without branches. Whoever makes a sample fills in the fields that it means.
+    /// The sample whose numbers are 0, without branches. Whoever makes a sample fills in the fields
+    /// that it means.
+    #[inline(always)]
     pub fn blank() -> Sample
         ensures { result ≡ blank }
     {

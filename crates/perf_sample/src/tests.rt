@@ -4,7 +4,11 @@ use super::*;
 use arrayvec::ArrayVec;
 use std::test::*;
 
-// A call at 80000000 to 80000008, recorded by thread 1 of process 1 with ip, pid, tid and the branch stack.
+// The bytes of each sample are those of `perf_event.h`: the record PERF_RECORD_SAMPLE, and struct
+// perf_branch_entry.
+
+// A call at 80000000 to 80000008, recorded by thread 1 of process 1 with ip, pid, tid and the
+// branch stack.
 pub(crate) const ONE_CALL: [u8; 56] = [
     0x09, 0x00, 0x00, 0x00, // type: PERF_RECORD_SAMPLE
     0x03, 0x00, // misc: PERF_RECORD_MISC_HYPERVISOR
@@ -17,7 +21,8 @@ pub(crate) const ONE_CALL: [u8; 56] = [
     0x00, 0x00, 0x40, 0x00, 0x00, 0x00, 0x00, 0x00, // flags: type call
 ];
 
-// Every field in its place, with a value of its own; a branch with the highest flag that isn't reserved.
+// Every field in its place, with a value of its own; a branch with the highest flag that isn't
+// reserved.
 pub(crate) const EVERY_FIELD: [u8; 112] = [
     0x09, 0x00, 0x00, 0x00, 0x02, 0x01, 0x70, 0x00, // misc 0x102, size 112
     0x11, 0x00, 0x00, 0x00, 0x00, 0x00, 0x00, 0xA1, // identifier

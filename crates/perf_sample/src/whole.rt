@@ -31,6 +31,6 @@ pub(crate) fn read_sample<S: Source>(
     read_rows(source, layout, &mut sample)?;
     let nr = read_nr(source, layout, header.size)?;
     read_hw_index(source, layout, &mut sample)?;
-    sample.branches = read_branches(source, nr)?;
+    read_branches(source, nr, &mut sample.branches)?;
     Ok(Some(sample))
 }

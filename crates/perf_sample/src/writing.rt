@@ -76,10 +76,12 @@ fn put_word(out: &mut Buffer, word: Word)
 
 fn put_fields(out: &mut Buffer, layout: Layout, sample: &Sample)
     requires { array_vec_len out.old ≤ 8 }
-    ensures items { out.new.items ≡ out.old.items ++ fields_bytes sample.now (fields_in layout all_fields) }
+    ensures items { out.new.items ≡ out.old.items
+        ++ fields_bytes sample.now (fields_in layout all_fields) }
     ensures len { array_vec_len out.new + 8 ≡ array_vec_len out.old + fixed_len layout }
     ensures room { array_vec_len out.new ≤ 96 }
-    ensures range { sample.now.misc < 2 ^ 16 → All IsBranch sample.now.branches → IsSample sample.now }
+    ensures range { sample.now.misc < 2 ^ 16 → All IsBranch sample.now.branches
+        → IsSample sample.now }
 {
     for place in ALL_FIELDS {
         let word = word_of(sample, place);
@@ -93,7 +95,8 @@ fn put_branches(out: &mut Buffer, branches: &[Branch])
     requires few { length branches.now ≤ 256 }
     requires room { array_vec_len out.old ≤ 96 }
     ensures items { out.new.items ≡ out.old.items ++ flat_map branch_bytes branches.now }
-    ensures len { array_vec_len out.new ≡ array_vec_len out.old + BRANCH_SIZE * length branches.now }
+    ensures len { array_vec_len out.new
+        ≡ array_vec_len out.old + BRANCH_SIZE * length branches.now }
 {
     for branch in branches {
         put_u64(out, branch.from);
@@ -102,19 +105,22 @@ fn put_branches(out: &mut Buffer, branches: &[Branch])
     }
 }
 
-/// Writes a sample: afterwards `out` holds its bytes and nothing else. The layout must fit the sample, which
-/// `Layout::fits` tests.
+/// Writes a sample: afterwards `out` holds its bytes and nothing else. The layout must fit the
+/// sample, which `Layout::fits` tests.
 ///
-/// The bytes are the one spelling of the sample (`perf_event.h`, PERF_RECORD_SAMPLE): a header of type 9 with misc and
-/// size, the fields that the layout has, in their order, the number of branches and the hardware index among them, and
-/// from, to and flags of each branch. All numbers are little-endian.
+/// The bytes are the one spelling of the sample (`perf_event.h`, PERF_RECORD_SAMPLE): a header of
+/// type 9 with misc and size, the fields that the layout has, in their order, the number of
+/// branches and the hardware index among them, and from, to and flags of each branch. All numbers
+/// are little-endian.
 #[tactic(auto, unfolding(crate::specs::Spelling::spelling))]
 pub fn encode(layout: Layout, sample: &Sample, out: &mut ArrayVec<u8, 9216>)
     requires { Fits layout sample.now }
     ensures spells { Spells layout sample.now out.new.items }
     // The field size of the header tells the truth.
-    ensures size { length out.new.items ≡ fixed_len layout + BRANCH_SIZE * length sample.now.branches }
-    // The numbers of the sample lie in the widths of their fields, so it is the one sample with these bytes.
+    ensures size { length out.new.items
+        ≡ fixed_len layout + BRANCH_SIZE * length sample.now.branches }
+    // The numbers of the sample lie in the widths of their fields, so it is the one sample with
+    // these bytes.
     ensures range { IsSample sample.now }
 {
     let branches = sample.branches.items();

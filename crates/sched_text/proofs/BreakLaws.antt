@@ -1,14 +1,11 @@
 -- A text has one break at most.
-use Rattle.std.proofs.Common.{◌≡◌, ℕ, zero, suc, ◌+◌, ◌<◌, ◌≤◌, List, length, drop, Result, Ok, Err, true, refl, sym, ap, ◌∙◌, subst, inl, inr, arith, add-one}
-use Rattle.std.proofs.lemmas.Bool.{cases_eq, cases_lt, true≢false, false≢true}
+use Rattle.std.proofs.Common.{◌≡◌, ℕ, zero, suc, ◌+◌, ◌<◌, ◌≤◌, List, length, drop, Result, Ok, Err, refl, sym, ap, ◌∙◌, subst, inl, inr, arith, add-one}
+use Rattle.std.proofs.lemmas.Bool.{cases_eq, cases_lt, true≢false}
 use Rattle.sched_text.specs.Lines.{LineCut, Line, Long, Open, line_at}
-use Rattle.sched_text.specs.Header.{step_at, row_cut, header_cut, next_line, after, is_done}
-use Rattle.sched_text.specs.Heads.{HasHeader, HeaderBreak}
+use Rattle.sched_text.specs.Header.{HeaderLines, NoLine, Versioned, Counted, LaidOut, Rows, Whole, header_cut, next_line, after, is_whole, HasHeader, HeaderBreak}
 use Rattle.sched_text.specs.Commands.{command_at, commands_after, next_command, joined}
 use Rattle.sched_text.specs.Text.{images_len, ImagesBreak, CommandsBreak, TextBreak}
-use Rattle.sched_text.specs.declared.heading.Place.{Place}
-use Rattle.sched_text.specs.declared.heading.Place.TheVariants as place
-use Rattle.sched_text.specs.declared.heading.Progress.{Progress}
+use Rattle.sched_text.specs.declared.schedule.Header.{Header}
 use Rattle.sched_text.specs.declared.schedule.Command.{Command}
 use Rattle.sched_text.specs.declared.faults.Reason.TheVariants as reason
 use Rattle.sched_text.specs.declared.faults.LineFault.{LineFault}
@@ -23,83 +20,86 @@ stays (suc m) n t f within e =
       | inr other ↦ let less : n ≤ m = omega (arith, within, other) in ap (next_line (suc m)) (stays m n t f less e)
     ]
 
-pub after_next : (n : ℕ) (t : List ℕ) (x : Progress × List ℕ) → after n t ≡ Ok x → after (suc n) t ≡ header_cut (suc n) x.0 (line_at x.1)
+pub after_next : (n : ℕ) (t : List ℕ) (x : HeaderLines × List ℕ) → after n t ≡ Ok x → after (suc n) t ≡ header_cut (suc n) x.0 (line_at x.1)
 unfolding after
 after_next n t x e = ap (next_line (suc n)) e
 
-pub never : {A : Type 0} (x : Progress × List ℕ) (f : LineFault) (r : Result (Progress × List ℕ) LineFault) → r ≡ Ok x → r ≡ Err f → A
+pub never : {A : Type 0} (x : HeaderLines × List ℕ) (f : LineFault) (r : Result (HeaderLines × List ℕ) LineFault) → r ≡ Ok x → r ≡ Err f → A
 never x f r e g = absurd (cc)
 
-nothing_at : (at : Place) (q : Progress) (w : List ℕ) → is_done at ≡ true → step_at at q w ≡ Err reason.NotWord
-nothing_at place.Images q w whole = refl
-nothing_at place.Version q w whole = absurd (false≢true whole)
-nothing_at (place.Harts v) q w whole = absurd (false≢true whole)
-nothing_at (place.Layout v) q w whole = absurd (false≢true whole)
-nothing_at place.Branch q w whole = absurd (false≢true whole)
-nothing_at place.FirstTask q w whole = absurd (false≢true whole)
-nothing_at place.Tasks q w whole = absurd (false≢true whole)
-nothing_at place.Irqs q w whole = absurd (false≢true whole)
-
 -- no line of the header follows `images`
-stops_at : (n : ℕ) (c : LineCut) (q : Progress) → is_done q.place ≡ true → (g : LineFault) × (header_cut n q c ≡ Err g)
-stops_at n Long q whole = (record { line = n; reason = reason.LongLine }, refl)
-stops_at n Open q whole = (record { line = n; reason = reason.Cut }, refl)
-stops_at n (Line w rest) q whole = (record { line = n; reason = reason.NotWord }, ap (row_cut n rest) (nothing_at q.place q w whole))
+stops_at : (n : ℕ) (c : LineCut) (h : Header) → (g : LineFault) × (header_cut n (Whole h) c ≡ Err g)
+stops_at n Long h = (record { line = n; reason = reason.LongLine }, refl)
+stops_at n Open h = (record { line = n; reason = reason.Cut }, refl)
+stops_at n (Line w rest) h = (record { line = n; reason = reason.NotWord }, refl)
 
-same_fault : {A : Type 0} (r : Result A LineFault) (f g : LineFault) → r ≡ Err f → r ≡ Err g → f ≡ g
+pub same_fault : {A : Type 0} (r : Result A LineFault) (f g : LineFault) → r ≡ Err f → r ≡ Err g → f ≡ g
 same_fault r f g e h = cc
 
 -- the parts of what was read
-same_read : (x y : Progress × List ℕ) (r : Result (Progress × List ℕ) LineFault) → r ≡ Ok x → r ≡ Ok y → x ≡ y
+same_read : (x y : HeaderLines × List ℕ) (r : Result (HeaderLines × List ℕ) LineFault) → r ≡ Ok x → r ≡ Ok y → x ≡ y
 same_read x y r e g = cc
 
 -- a header that is refused isn't whole
-pub not_both : (t : List ℕ) (f : LineFault) (m : ℕ) (q : Progress) (s : List ℕ) → HeaderBreak t f → HasHeader t m q s → ⊥
+pub not_both : (t : List ℕ) (f : LineFault) (m : ℕ) (q : Header) (s : List ℕ) → HeaderBreak t f → HasHeader t m q s → ⊥
 not_both t f m q s b h =
     elim (cases_lt b.before m) [
-      | inl less ↦ never (q, s) f (after m t) h.reads (stays m (suc b.before) t f (omega (arith, less)) (after_next b.before t (b.progress, b.rest) b.begun.reads ∙ rw (← add-one b.before) b.refused))
+      | inl less ↦ never (Whole q, s) f (after m t) h.reads (stays m (suc b.before) t f (omega (arith, less)) (after_next b.before t (b.lines, b.rest) b.begun.reads ∙ rw (← add-one b.before) b.refused))
       | inr more ↦ elim (cases_eq m b.before) [
         | inl same ↦
-            let p : (q, s) ≡ (b.progress, b.rest) = same_read (q, s) (b.progress, b.rest) (after m t) h.reads (rw same b.begun.reads) in
-            true≢false (sym h.whole ∙ ap (λ (x : Progress × List ℕ). is_done x.0.place) p ∙ b.begun.goes_on)
+            let p = same_read (Whole q, s) (b.lines, b.rest) (after m t) h.reads (rw same b.begun.reads) in
+            true≢false (ap (λ (x : HeaderLines × List ℕ). is_whole x.0) p ∙ b.begun.goes_on)
         | inr other ↦
-            let stop = stops_at (suc m) (line_at s) q h.whole in
-            never (b.progress, b.rest) stop.0 (after b.before t) b.begun.reads (stays b.before (suc m) t stop.0 (omega (arith, more, other)) (after_next m t (q, s) h.reads ∙ stop.1))
+            let stop = stops_at (suc m) (line_at s) q in
+            never (b.lines, b.rest) stop.0 (after b.before t) b.begun.reads (stays b.before (suc m) t stop.0 (omega (arith, more, other)) (after_next m t (Whole q, s) h.reads ∙ stop.1))
       ]
     ]
 
 -- two headers at the front of a text are one
-one_header : (t : List ℕ) (m n : ℕ) (p q : Progress) (r s : List ℕ) → HasHeader t m p r → HasHeader t n q s → m < n → ⊥
+one_header : (t : List ℕ) (m n : ℕ) (p q : Header) (r s : List ℕ) → HasHeader t m p r → HasHeader t n q s → m < n → ⊥
 one_header t m n p q r s a b less =
-    let stop = stops_at (suc m) (line_at r) p a.whole in
-    never (q, s) stop.0 (after n t) b.reads (stays n (suc m) t stop.0 (omega (arith, less)) (after_next m t (p, r) a.reads ∙ stop.1))
+    let stop = stops_at (suc m) (line_at r) p in
+    never (Whole q, s) stop.0 (after n t) b.reads (stays n (suc m) t stop.0 (omega (arith, less)) (after_next m t (Whole p, r) a.reads ∙ stop.1))
 
-pub same_lines : (t : List ℕ) (m n : ℕ) (p q : Progress) (r s : List ℕ) → HasHeader t m p r → HasHeader t n q s → m ≡ n
+pub same_lines : (t : List ℕ) (m n : ℕ) (p q : Header) (r s : List ℕ) → HasHeader t m p r → HasHeader t n q s → m ≡ n
 same_lines t m n p q r s a b =
     elim (cases_eq m n) [
       | inl e ↦ e
       | inr other ↦ elim (cases_lt m n) [ inl less ↦ absurd (one_header t m n p q r s a b less) | inr more ↦ absurd (one_header t n m q p s r b a (omega (arith, more, other))) ]
     ]
 
-pub same_header : (t : List ℕ) (m n : ℕ) (p q : Progress) (r s : List ℕ) → HasHeader t m p r → HasHeader t n q s → ◌≡◌ {A = Progress × List ℕ} (p, r) (q, s)
-same_header t m n p q r s a b = same_read (p, r) (q, s) (after m t) a.reads (rw (same_lines t m n p q r s a b) b.reads)
+-- the header of lines that are whole
+abbrev header_in : Header → HeaderLines → Header
+header_in h NoLine = h
+header_in h (Versioned v) = h
+header_in h (Counted v n) = h
+header_in h (LaidOut n b) = h
+header_in h (Rows g) = h
+header_in h (Whole g) = g
+
+abbrev header_and_rest : Header → HeaderLines × List ℕ → Header × List ℕ
+header_and_rest h x = (header_in h x.0, x.1)
+
+pub same_header : (t : List ℕ) (m n : ℕ) (p q : Header) (r s : List ℕ) → HasHeader t m p r → HasHeader t n q s → ◌≡◌ {A = Header × List ℕ} (p, r) (q, s)
+same_header t m n p q r s a b =
+    ap (header_and_rest p) (same_read (Whole p, r) (Whole q, s) (after m t) a.reads (rw (same_lines t m n p q r s a b) b.reads))
 
 -- two refused lines of a header are one
 before_less : (t : List ℕ) (f g : LineFault) (a : HeaderBreak t f) (b : HeaderBreak t g) → a.before < b.before → ⊥
 before_less t f g a b less =
-    never (b.progress, b.rest) f (after b.before t) b.begun.reads
-    (stays b.before (suc a.before) t f (omega (arith, less)) (after_next a.before t (a.progress, a.rest) a.begun.reads ∙ rw (← add-one a.before) a.refused))
+    never (b.lines, b.rest) f (after b.before t) b.begun.reads
+    (stays b.before (suc a.before) t f (omega (arith, less)) (after_next a.before t (a.lines, a.rest) a.begun.reads ∙ rw (← add-one a.before) a.refused))
 
-refused_alike : (n m : ℕ) (x y : Progress × List ℕ) (f g : LineFault) → n ≡ m → x ≡ y → header_cut (n + 1) x.0 (line_at x.1) ≡ Err f → header_cut (m + 1) y.0 (line_at y.1) ≡ Err g → f ≡ g
+refused_alike : (n m : ℕ) (x y : HeaderLines × List ℕ) (f g : LineFault) → n ≡ m → x ≡ y → header_cut (n + 1) x.0 (line_at x.1) ≡ Err f → header_cut (m + 1) y.0 (line_at y.1) ≡ Err g → f ≡ g
 refused_alike n m x y f g e h a b =
-    let c : header_cut (m + 1) y.0 (line_at y.1) ≡ Err f = subst (λ (z : Progress × List ℕ). header_cut (m + 1) z.0 (line_at z.1) ≡ Err f) h (subst (λ (k : ℕ). header_cut (k + 1) x.0 (line_at x.1) ≡ Err f) e a) in
+    let c : header_cut (m + 1) y.0 (line_at y.1) ≡ Err f = subst (λ (z : HeaderLines × List ℕ). header_cut (m + 1) z.0 (line_at z.1) ≡ Err f) h (subst (λ (k : ℕ). header_cut (k + 1) x.0 (line_at x.1) ≡ Err f) e a) in
     same_fault (header_cut (m + 1) y.0 (line_at y.1)) f g c b
 
 header_once : (t : List ℕ) (f g : LineFault) → HeaderBreak t f → HeaderBreak t g → f ≡ g
 header_once t f g a b =
     elim (cases_eq a.before b.before) [
-      | inl e ↦ refused_alike a.before b.before (a.progress, a.rest) (b.progress, b.rest) f g e
-          (same_read (a.progress, a.rest) (b.progress, b.rest) (after a.before t) a.begun.reads (rw e b.begun.reads)) a.refused b.refused
+      | inl e ↦ refused_alike a.before b.before (a.lines, a.rest) (b.lines, b.rest) f g e
+          (same_read (a.lines, a.rest) (b.lines, b.rest) (after a.before t) a.begun.reads (rw e b.begun.reads)) a.refused b.refused
       | inr other ↦ elim (cases_lt a.before b.before) [ inl less ↦ absurd (before_less t f g a b less) | inr more ↦ absurd (before_less t g f b a (omega (arith, more, other))) ]
     ]
 
@@ -143,7 +143,7 @@ commands_once n m base t x y f g a r b s =
     ]
 
 -- what follows the images, by the header
-abbrev pub behind_images : Progress × List ℕ → List ℕ
+abbrev pub behind_images : Header × List ℕ → List ℕ
 behind_images h = drop (images_len h.0) h.1
 
 commands_break_once : (t : List ℕ) (f g : LineFault) → CommandsBreak t f → CommandsBreak t g → f ≡ g
@@ -151,7 +151,7 @@ commands_break_once t f g a b =
     let lines : b.lines ≡ a.lines = same_lines t b.lines a.lines b.begun.progress a.begun.progress b.begun.rest a.begun.rest b.begun.header a.begun.header in
     let header = same_header t b.lines a.lines b.begun.progress a.begun.progress b.begun.rest a.begun.rest b.begun.header a.begun.header in
     let reads : commands_after b.count a.lines (behind_images (a.begun.progress, a.begun.rest)) ≡ Ok (b.commands, b.behind) =
-    subst (λ (h : Progress × List ℕ). commands_after b.count a.lines (behind_images h) ≡ Ok (b.commands, b.behind)) header
+    subst (λ (h : Header × List ℕ). commands_after b.count a.lines (behind_images h) ≡ Ok (b.commands, b.behind)) header
     (subst (λ (n : ℕ). commands_after b.count n (behind_images (b.begun.progress, b.begun.rest)) ≡ Ok (b.commands, b.behind)) lines b.begun.reads) in
     let refused : command_at (a.lines + (b.count + 1)) b.count b.behind ≡ Err g = subst (λ (n : ℕ). command_at (n + (b.count + 1)) b.count b.behind ≡ Err g) lines b.refused in
     commands_once a.count b.count a.lines (behind_images (a.begun.progress, a.begun.rest)) (a.commands, a.behind) (b.commands, b.behind) f g a.begun.reads a.refused reads refused
@@ -165,7 +165,7 @@ images_once t f g a b =
 pub images_or_commands : (t : List ℕ) (f g : LineFault) → ImagesBreak t f → CommandsBreak t g → ⊥
 images_or_commands t f g a b =
     let header = same_header t a.lines b.lines a.progress b.begun.progress a.rest b.begun.rest a.header b.begun.header in
-    let short : length b.begun.rest < images_len b.begun.progress = subst (λ (h : Progress × List ℕ). length h.1 < images_len h.0) header a.short in
+    let short : length b.begun.rest < images_len b.begun.progress = subst (λ (h : Header × List ℕ). length h.1 < images_len h.0) header a.short in
     omega (arith, short, b.begun.images)
 
 -- a text has one break at most

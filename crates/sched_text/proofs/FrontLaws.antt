@@ -4,11 +4,10 @@ use Rattle.std.proofs.lemmas.Bool.{eqb-true, true≢false, false≢true}
 use Rattle.std.proofs.lemmas.List.Folds.{list_any-append}
 use Rattle.std.proofs.Math.Bool.{or-false}
 use Rattle.sched_text.specs.Lines.{LineCut, Line, Long, Open, put_front, line_within, line_at}
-use Rattle.sched_text.specs.Header.{start, step, refuse, row_cut, header_cut, next_line, after}
+use Rattle.sched_text.specs.Header.{HeaderLines, NoLine, with_line, refuse, row_cut, header_cut, next_line, after}
 use Rattle.sched_text.specs.Rows.{command_of}
 use Rattle.sched_text.specs.Commands.{is_end, end_at, command_row, command_cut, command_at, commands_after, next_command, joined}
 use Rattle.sched_text.specs.Text.{has_end}
-use Rattle.sched_text.specs.declared.heading.Progress.{Progress}
 use Rattle.sched_text.specs.declared.schedule.Command.{Command}
 use Rattle.sched_text.specs.declared.schedule.Command.TheVariants as command
 use Rattle.sched_text.specs.declared.faults.LineFault.{LineFault}
@@ -49,13 +48,13 @@ pub parts : {A : Type 0} (a b : A) (s t : List ℕ) → ◌≡◌ {A = Result (A
 parts {A} a b s t e = let both : ◌≡◌ {A = A × List ℕ} (a, s) (b, t) = cc in (ap (λ (x : A × List ℕ). x.0) both, ap (λ (x : A × List ℕ). x.1) both)
 
 -- header lines
-row_front : (n : ℕ) (rest rest' : List ℕ) (q : Progress) (r : Result Progress Reason) → row_cut n rest r ≡ Ok (q, rest') → (rest ≡ rest') × ((v : List ℕ) → row_cut n v r ≡ Ok (q, v))
-row_front n rest rest' q (Ok p) e = let both = parts p q rest rest' e in (both.1, λ v. ap (λ (x : Progress). Ok (x, v)) both.0)
+row_front : (n : ℕ) (rest rest' : List ℕ) (q : HeaderLines) (r : Result HeaderLines Reason) → row_cut n rest r ≡ Ok (q, rest') → (rest ≡ rest') × ((v : List ℕ) → row_cut n v r ≡ Ok (q, v))
+row_front n rest rest' q (Ok p) e = let both = parts p q rest rest' e in (both.1, λ v. ap (λ (x : HeaderLines). Ok (x, v)) both.0)
 row_front n rest rest' q (Err why) e = absurd cc
 
-cut_front : (n : ℕ) (p q : Progress) (s rest : List ℕ) (c : LineCut) → line_at s ≡ c → header_cut n p c ≡ Ok (q, rest) → Front (λ t. header_cut n p (line_at t)) s q rest
+cut_front : (n : ℕ) (p q : HeaderLines) (s rest : List ℕ) (c : LineCut) → line_at s ≡ c → header_cut n p c ≡ Ok (q, rest) → Front (λ t. header_cut n p (line_at t)) s q rest
 cut_front n p q s rest (Line w r) is e =
-    let row = row_front n r rest q (step p w) e in
+    let row = row_front n r rest q (with_line p w) e in
     let lone = line_lone s w r is in
     let lf : List ℕ = 10 ∷ [] in (
       w ++ lf,
@@ -65,7 +64,7 @@ cut_front n p q s rest (Line w r) is e =
 cut_front n p q s rest Long is e = absurd cc
 cut_front n p q s rest Open is e = absurd cc
 
-after_by : (n : ℕ) (t rest : List ℕ) (p : Progress) (r : Result (Progress × List ℕ) LineFault) → after n t ≡ r → ((q : Progress) (s : List ℕ) → after n t ≡ Ok (q, s) → Front (after n) t q s)
+after_by : (n : ℕ) (t rest : List ℕ) (p : HeaderLines) (r : Result (HeaderLines × List ℕ) LineFault) → after n t ≡ r → ((q : HeaderLines) (s : List ℕ) → after n t ≡ Ok (q, s) → Front (after n) t q s)
     → next_line (suc n) r ≡ Ok (p, rest) → Front (after (suc n)) t p rest
 unfolding after
 after_by n t rest p (Ok (q, s)) is before e =
@@ -77,9 +76,9 @@ after_by n t rest p (Ok (q, s)) is before e =
     )
 after_by n t rest p (Err f) is before e = absurd cc
 
-pub after_front : (n : ℕ) (t rest : List ℕ) (p : Progress) → after n t ≡ Ok (p, rest) → Front (after n) t p rest
+pub after_front : (n : ℕ) (t rest : List ℕ) (p : HeaderLines) → after n t ≡ Ok (p, rest) → Front (after n) t p rest
 unfolding after
-after_front zero t rest p e = let both = parts start p t rest e in ([], both.1, λ v. ap (λ (q : Progress). Ok (q, v)) both.0)
+after_front zero t rest p e = let both = parts NoLine p t rest e in ([], both.1, λ v. ap (λ (q : HeaderLines). Ok (q, v)) both.0)
 after_front (suc n) t rest p e = after_by n t rest p (after n t) refl (λ q s f. after_front n t s q f) e
 
 -- commands other than `end`

@@ -1,26 +1,22 @@
 -- One call of a reader after another.
-use Rattle.std.proofs.Common.{◌≡◌, ◌⊎◌, inl, inr, ℕ, zero, suc, ◌+◌, ◌-◌, ◌<◌, ◌≤◌, ◌||◌, List, [], ◌∷◌, ◌++◌, length, take, drop, if◌then◌else◌, Bool, true, false, nat_lt, Option, None, Some, Result, Ok, Err, refl, sym, ap, ◌∙◌, subst, arith, add-one, drop-drop, get_or}
+use Rattle.std.proofs.Common.{◌≡◌, ℕ, suc, ◌+◌, ◌-◌, ◌<◌, ◌≤◌, List, [], ◌∷◌, ◌++◌, length, take, drop, if◌then◌else◌, Bool, true, false, nat_lt, Option, None, Some, Result, Ok, Err, refl, sym, ap, ◌∙◌, subst, arith, add-one, drop-drop, get_or}
 use Rattle.std.proofs.lemmas.List.{length-drop, drop-take}
 use Rattle.std.proofs.lemmas.List.Sums.{sum_by_more, sum_by-take-le}
 use Rattle.std.proofs.lemmas.Bool.{or_from}
 use Rattle.ctr_port.specs.InHand.{Of}
-use Rattle.ctr_port.proofs.InHand.{of_map, of_then}
-use Rattle.sched_text.specs.Lines.{Open, line_at}
+use Rattle.ctr_port.proofs.InHand.{of_then}
 use Rattle.sched_text.specs.Header.{refuse}
-use Rattle.sched_text.specs.Images.{image_at, Images, IsWithin}
+use Rattle.sched_text.specs.Images.{image_at, ImageAnswer, IsWithin}
 use Rattle.sched_text.specs.Commands.{is_end, command_at, commands_after, next_command, joined}
-use Rattle.sched_text.specs.Reader.{counted, Shows, EndsAt, widened}
+use Rattle.sched_text.specs.Reader.{counted}
 use Rattle.sched_text.specs.Text.{has_end}
 use Rattle.sched_text.specs.declared.schedule.TaskLine.{TaskLine}
 use Rattle.sched_text.specs.declared.schedule.Command.{Command}
-use Rattle.sched_text.specs.declared.schedule.Command.TheVariants as command
 use Rattle.sched_text.specs.declared.faults.LineFault.{LineFault}
 use Rattle.sched_text.specs.declared.faults.Reason.TheVariants as reason
-use Rattle.sched_text.specs.declared.faults.CommandFault.{CommandFault}
-use Rattle.sched_text.specs.declared.faults.CommandFault.TheVariants as stops
 use Rattle.sched_text.specs.declared.faults.ScheduleFault.{ScheduleFault}
 use Rattle.sched_text.specs.declared.faults.ScheduleFault.TheVariants as fault
-use Rattle.sched_text.specs.Following.{total, Passes, IsShort, Passed, Gives, Given, After, Listened, IsImage}
+use Rattle.sched_text.specs.Outcomes.{total, IsBehind, IsShort, ImagesAnswer, FirstCommands, HasFirstCommands, IsImage}
 use Rattle.sched_text.proofs.FrontLaws.{end_more, parts}
 
 -- images
@@ -32,16 +28,16 @@ short_by false line len t f is e = absurd cc
 is_short : (line len : ℕ) (t : List ℕ) (f : LineFault) → image_at line len t ≡ Err f → IsShort line len f t
 is_short line len t f e = short_by (nat_lt (length t) len) line len t f refl e
 
-pub stops_short : (f : ScheduleFault) (line line' a b len : ℕ) (x y z : Option (List ℕ)) (hand : List ℕ) → line' ≡ line → a + b ≤ len → Of x y (Passes a) → Images line' b y z hand (Err f) → Passed line len x z hand (Err f)
+pub stops_short : (f : ScheduleFault) (line line' a b len : ℕ) (x y z : Option (List ℕ)) (hand : List ℕ) → line' ≡ line → a + b ≤ len → Of x y (IsBehind a) → ImageAnswer line' b y z hand (Err f) → ImagesAnswer line len x z hand (Err f)
 stops_short (fault.Line f) line line' a b len x y z hand same fits passed stops =
-    of_then x y z (Passes a) (λ t t'. image_at line' b t ≡ Err f) (λ t t'. IsShort line len f t) passed stops
+    of_then x y z (IsBehind a) (λ t t'. image_at line' b t ≡ Err f) (λ t t'. IsShort line len f t) passed stops
     (λ t t' t'' p e.
     let s = is_short line' b t' f e in
     let left : length t' ≡ length t - a = ap length p.1 ∙ length-drop a t in
     (omega (arith, left, s.0, p.0, fits), s.1 ∙ ap (λ (k : ℕ). record { line = k; reason = reason.Cut }) same))
 stops_short fault.ReadFault line line' a b len x y z hand same fits passed stops = (
   stops.0,
-  of_then x y z (Passes a) (IsWithin b) (IsWithin len) passed stops.1
+  of_then x y z (IsBehind a) (IsWithin b) (IsWithin len) passed stops.1
       (λ t t' t'' p w. (a + w.0, omega (arith, w.1, fits), w.2 ∙ ap (drop w.0) p.1 ∙ drop-drop w.0 a t)),
 )
 stops_short fault.Memory line line' a b len x y z hand same fits passed stops = tt
@@ -50,7 +46,7 @@ pub fits_in : (tasks : List TaskLine) (i : ℕ) (d : TaskLine) → i < length ta
 fits_in tasks i d less = omega (arith, sum_by_more (λ (t : TaskLine). t.image) tasks i d less, sum_by-take-le (λ (t : TaskLine). t.image) tasks (i + 1))
 
 -- commands
-pub no_commands : (lines : ℕ) (a : Option (List ℕ)) → Of a a (Given lines 0)
+pub no_commands : (lines : ℕ) (a : Option (List ℕ)) → Of a a (HasFirstCommands lines 0)
 unfolding commands_after
 no_commands lines None = tt
 no_commands lines (Some t) = ([], (refl, refl))
@@ -58,8 +54,8 @@ no_commands lines (Some t) = ([], (refl, refl))
 pub counted_one : (n : ℕ) (c : Command) → is_end c ≡ false → counted n (Ok c) ≡ n + 1
 counted_one n c e = rw e refl
 
-gives_more : (lines count : ℕ) (cs : List Command) (c : Command) (t t' t'' : List ℕ) → is_end c ≡ false → Gives lines count cs t t' → command_at (lines + (count + 1)) count t' ≡ Ok (c, t'')
-    → Gives lines (count + 1) (cs ++ c ∷ []) t t''
+gives_more : (lines count : ℕ) (cs : List Command) (c : Command) (t t' t'' : List ℕ) → is_end c ≡ false → FirstCommands lines count cs t t' → command_at (lines + (count + 1)) count t' ≡ Ok (c, t'')
+    → FirstCommands lines (count + 1) (cs ++ c ∷ []) t t''
 unfolding commands_after
 gives_more lines count cs c t t' t'' other given next = (
   rw (add-one count) (ap (next_command (lines + suc count) count) given.0 ∙ ap (joined cs) (rw (add-one count) at next)),
@@ -67,9 +63,9 @@ gives_more lines count cs c t t' t'' other given next = (
 )
 
 pub given_more : (lines count number : ℕ) (c : Command) (a b d : Option (List ℕ)) → number ≡ lines + (count + 1) → is_end c ≡ false
-    → Of a b (Given lines count) → Of b d (λ t t'. command_at number count t ≡ Ok (c, t')) → Of a d (Given lines (count + 1))
+    → Of a b (HasFirstCommands lines count) → Of b d (λ t t'. command_at number count t ≡ Ok (c, t')) → Of a d (HasFirstCommands lines (count + 1))
 given_more lines count number c a b d is other given next =
-    of_then a b d (Given lines count) (λ t t'. command_at number count t ≡ Ok (c, t')) (Given lines (count + 1)) given next
+    of_then a b d (HasFirstCommands lines count) (λ t t'. command_at number count t ≡ Ok (c, t')) (HasFirstCommands lines (count + 1)) given next
     (λ x y z p q. (p.0 ++ c ∷ [], gives_more lines count p.0 c x y z other p.1 (subst (λ (k : ℕ). command_at k count y ≡ Ok (c, z)) is q)))
 
 -- the image of a task
@@ -78,7 +74,7 @@ is_image_by : (b : Bool) (line len : ℕ) (t t' image : List ℕ) → nat_lt (le
 is_image_by true line len t t' image is e = absurd cc
 is_image_by false line len t t' image is e = (grind (arith, is), sym (parts (take len t) image (drop len t) t' e).0)
 
-is_image : (line i : ℕ) (d : TaskLine) (tasks : List TaskLine) (t t' t'' image : List ℕ) → i < length tasks → Passes (total (take i tasks)) t t' → image_at line (get_or tasks i d).image t' ≡ Ok (image, t'') → IsImage tasks i image t
+is_image : (line i : ℕ) (d : TaskLine) (tasks : List TaskLine) (t t' t'' image : List ℕ) → i < length tasks → IsBehind (total (take i tasks)) t t' → image_at line (get_or tasks i d).image t' ≡ Ok (image, t'') → IsImage tasks i image t
 is_image line i d tasks t t' t'' image less p e =
     let len = (get_or tasks i d).image in
     let before = total (take i tasks) in
@@ -90,8 +86,8 @@ is_image line i d tasks t t' t'' image less p e =
       s.1 ∙ ap (take len) p.1 ∙ sym (drop-take before len t) ∙ ap (λ (k : ℕ). drop before (take k t)) (sym both),
     )
 
-pub image_is : (line i : ℕ) (d : TaskLine) (tasks : List TaskLine) (image : List ℕ) (x y z : Option (List ℕ)) → i < length tasks → Of x y (Passes (total (take i tasks)))
+pub image_is : (line i : ℕ) (d : TaskLine) (tasks : List TaskLine) (image : List ℕ) (x y z : Option (List ℕ)) → i < length tasks → Of x y (IsBehind (total (take i tasks)))
     → Of y z (λ t t'. image_at line (get_or tasks i d).image t ≡ Ok (image, t')) → Of x z (λ t t'. IsImage tasks i image t)
 image_is line i d tasks image x y z less passed given =
-    of_then x y z (Passes (total (take i tasks))) (λ t t'. image_at line (get_or tasks i d).image t ≡ Ok (image, t')) (λ t t'. IsImage tasks i image t) passed given
+    of_then x y z (IsBehind (total (take i tasks))) (λ t t'. image_at line (get_or tasks i d).image t ≡ Ok (image, t')) (λ t t'. IsImage tasks i image t) passed given
     (λ t t' t'' p e. is_image line i d tasks t t' t'' image less p e)

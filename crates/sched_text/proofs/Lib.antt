@@ -3,7 +3,7 @@ pub mod WordLaws
 pub mod MarkLaws
 pub mod TextLaws
 pub mod CommandLaws
-pub mod HeadLaws
+pub mod HeaderLaws
 pub mod ImageLaws
 pub mod BreakLaws
 pub mod WholeLaws
@@ -11,3 +11,4 @@ pub mod OneLaws
 pub mod FrontLaws
 pub mod JoinLaws
 pub mod FollowLaws
+pub mod GrammarLaws

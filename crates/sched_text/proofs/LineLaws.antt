@@ -5,7 +5,7 @@ use Rattle.std.proofs.lemmas.Bool.{eq-eqb}
 use Rattle.std.proofs.lemmas.Bool.Decides.{eqb_tells}
 use Rattle.std.proofs.lemmas.List.{take_more, drop_all}
 use Rattle.sched_text.specs.Lines.{LineCut, Line, Long, Open, put_front, line_within, line_at}
-use Rattle.sched_text.specs.Cuts.{under}
+use Rattle.sched_text.specs.InHand.{under}
 
 under_front : (front : List ℕ) (b : ℕ) (c : LineCut) → under front (put_front b c) ≡ under (front ++ b ∷ []) c
 under_front front b (Line line rest) = ap (λ (x : List ℕ). Line x rest) (sym (append_assoc front (b ∷ []) line))

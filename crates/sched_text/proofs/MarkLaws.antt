@@ -12,9 +12,9 @@ use Rattle.sched_text.specs.Irqs.{lines_of_task, last, order_refusal, irq_refusa
 use Rattle.sched_text.specs.Marks.{no_mark, noted, note, mark_of, mark_refusal, Marked}
 use Rattle.sched_text.specs.declared.faults.Reason.TheVariants as reason
 use Rattle.sched_text.specs.Rows.{IsTask}
-use Rattle.sched_text.specs.Header.{Sound, start}
-use Rattle.sched_text.specs.declared.heading.Progress.{Progress}
-use Rattle.sched_text.specs.declared.heading.Place.TheVariants as place
+use Rattle.sched_text.specs.Progress.{Sound, start}
+use Rattle.sched_text.specs.declared.progress.Progress.{Progress}
+use Rattle.sched_text.specs.declared.progress.Place.TheVariants as place
 
 -- without irq lines each task has the first mark
 pub marked_none : Marked (replicate 64 no_mark) []

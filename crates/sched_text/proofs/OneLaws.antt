@@ -1,24 +1,24 @@
 -- What is whole in a text is one of each.
 use Rattle.std.proofs.Common.{◌≡◌, ℕ, ◌+◌, List, drop, take, Ok, Err, ap, ◌∙◌, sym, subst, inl, inr, arith}
 use Rattle.std.proofs.lemmas.Bool.{cases_eq, cases_lt}
-use Rattle.sched_text.specs.Heads.{HasHeader}
+use Rattle.sched_text.specs.Header.{HasHeader}
 use Rattle.sched_text.specs.Commands.{command_at, commands_after}
 use Rattle.sched_text.specs.Text.{first_images_len, HasImage, CommandsBreak, OneOfEach}
-use Rattle.sched_text.specs.declared.heading.Progress.{Progress}
+use Rattle.sched_text.specs.declared.schedule.Header.{Header}
 use Rattle.sched_text.specs.declared.schedule.Command.{Command}
 use Rattle.sched_text.specs.declared.faults.LineFault.{LineFault}
 use Rattle.sched_text.proofs.BreakLaws.{same_lines, same_header, same_commands, sooner, behind_images}
 
-one_header : (t : List ℕ) (m n : ℕ) (p q : Progress) (r s : List ℕ) → HasHeader t m p r → HasHeader t n q s → (m ≡ n) × (p ≡ q) × (r ≡ s)
+one_header : (t : List ℕ) (m n : ℕ) (p q : Header) (r s : List ℕ) → HasHeader t m p r → HasHeader t n q s → (m ≡ n) × (p ≡ q) × (r ≡ s)
 one_header t m n p q r s a b =
     let same = same_header t m n p q r s a b in (
       same_lines t m n p q r s a b,
-      ap (λ (h : Progress × List ℕ). h.0) same,
-      ap (λ (h : Progress × List ℕ). h.1) same,
+      ap (λ (h : Header × List ℕ). h.0) same,
+      ap (λ (h : Header × List ℕ). h.1) same,
     )
 
 -- the bytes of the image of a task, by the header
-abbrev image_of : ℕ → Progress × List ℕ → List ℕ
+abbrev image_of : ℕ → Header × List ℕ → List ℕ
 image_of task h = drop (first_images_len h.0 task) (take (first_images_len h.0 (task + 1)) h.1)
 
 one_image : (t : List ℕ) (task : ℕ) (first second : List ℕ) → HasImage t task first → HasImage t task second → first ≡ second
@@ -39,7 +39,7 @@ one_list_before t f g a b =
     let lines : b.lines ≡ a.lines = same_lines t b.lines a.lines b.begun.progress a.begun.progress b.begun.rest a.begun.rest b.begun.header a.begun.header in
     let header = same_header t b.lines a.lines b.begun.progress a.begun.progress b.begun.rest a.begun.rest b.begun.header a.begun.header in
     let reads : commands_after b.count a.lines (behind_images (a.begun.progress, a.begun.rest)) ≡ Ok (b.commands, b.behind) =
-    subst (λ (h : Progress × List ℕ). commands_after b.count a.lines (behind_images h) ≡ Ok (b.commands, b.behind)) header
+    subst (λ (h : Header × List ℕ). commands_after b.count a.lines (behind_images h) ≡ Ok (b.commands, b.behind)) header
     (subst (λ (n : ℕ). commands_after b.count n (behind_images (b.begun.progress, b.begun.rest)) ≡ Ok (b.commands, b.behind)) lines b.begun.reads) in
     let refused : command_at (a.lines + (b.count + 1)) b.count b.behind ≡ Err g = subst (λ (n : ℕ). command_at (n + (b.count + 1)) b.count b.behind ≡ Err g) lines b.refused in
     ap (λ (w : List Command × List ℕ). w.0)

@@ -4,7 +4,7 @@ use Rattle.std.proofs.lemmas.Bool.{true≢false}
 use Rattle.std.specs.Io.KnownBytes.{IsAtEnd}
 use Rattle.ctr_port.specs.InHand.{text_of, Same, Of}
 use Rattle.sched_text.specs.Lines.{LineCut, Line, Long, Open, put_front, line_within, line_at}
-use Rattle.sched_text.specs.Cuts.{is_open}
+use Rattle.sched_text.specs.InHand.{is_open}
 
 -- a cut of a longer text
 abbrev extend : List ℕ → LineCut → LineCut

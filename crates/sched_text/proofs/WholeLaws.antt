@@ -5,11 +5,10 @@ use Rattle.std.proofs.Math.Bool.{or-false}
 use Rattle.std.proofs.lemmas.List.Folds.{list_any-append}
 use Rattle.sched_text.specs.Lines.{LineCut, Line, Long, Open, put_front, line_within, line_at}
 use Rattle.sched_text.specs.Rows.{command_of}
-use Rattle.sched_text.specs.Header.{start, step, row_cut, header_cut, refuse, after, is_done}
-use Rattle.sched_text.specs.Heads.{HasHeader, HeaderBreak}
+use Rattle.sched_text.specs.Header.{HeaderLines, NoLine, Versioned, Counted, LaidOut, Rows, Whole, with_line, row_cut, header_cut, refuse, after, is_whole, HasHeader, HeaderBreak}
 use Rattle.sched_text.specs.Commands.{is_end, end_at, command_row, command_cut, command_at, commands_after, next_command, joined}
 use Rattle.sched_text.specs.Text.{images_len, ImagesBreak, has_end, CommandsBreak, TextBreak, IsWhole, WholeOrBroken}
-use Rattle.sched_text.specs.declared.heading.Progress.{Progress}
+use Rattle.sched_text.specs.declared.schedule.Header.{Header}
 use Rattle.sched_text.specs.declared.schedule.Command.{Command}
 use Rattle.sched_text.specs.declared.schedule.Command.TheVariants as command
 use Rattle.sched_text.specs.declared.faults.Reason.{Reason}
@@ -51,45 +50,54 @@ no_bytes [] e = refl
 no_bytes (b ∷ t) e = absurd (omega (arith, e))
 
 -- a header line that is taken leaves less text
-row_shorter : (n m : ℕ) (rest : List ℕ) (r : Result Progress Reason) (x : Progress × List ℕ) → length rest < m → row_cut n rest r ≡ Ok x → length x.1 < m
+row_shorter : (n m : ℕ) (rest : List ℕ) (r : Result HeaderLines Reason) (x : HeaderLines × List ℕ) → length rest < m → row_cut n rest r ≡ Ok x → length x.1 < m
 row_shorter n m rest (Ok p) x less e = let same : rest ≡ x.1 = cc in rw (← same) less
 row_shorter n m rest (Err why) x less e = absurd cc
 
-header_shorter_by : (n m : ℕ) (p : Progress) (c : LineCut) (x : Progress × List ℕ) → Shorter m c → header_cut n p c ≡ Ok x → length x.1 < m
-header_shorter_by n m p (Line w rest) x less e = row_shorter n m rest (step p w) x less e
+header_shorter_by : (n m : ℕ) (p : HeaderLines) (c : LineCut) (x : HeaderLines × List ℕ) → Shorter m c → header_cut n p c ≡ Ok x → length x.1 < m
+header_shorter_by n m p (Line w rest) x less e = row_shorter n m rest (with_line p w) x less e
 header_shorter_by n m p Long x less e = absurd cc
 header_shorter_by n m p Open x less e = absurd cc
 
-header_shorter : (n : ℕ) (p : Progress) (t : List ℕ) (x : Progress × List ℕ) → header_cut n p (line_at t) ≡ Ok x → length x.1 < length t
+header_shorter : (n : ℕ) (p : HeaderLines) (t : List ℕ) (x : HeaderLines × List ℕ) → header_cut n p (line_at t) ≡ Ok x → length x.1 < length t
 header_shorter n p t x e = header_shorter_by n (length t) p (line_at t) x (within_shorter 256 t) e
 
 -- a text has a header or breaks in it
 abbrev Headed : List ℕ → Type 0
-Headed t = ((n : ℕ) × (p : Progress) × (rest : List ℕ) × HasHeader t n p rest) ⊎ ((f : LineFault) × HeaderBreak t f)
+Headed t = ((n : ℕ) × (h : Header) × (rest : List ℕ) × HasHeader t n h rest) ⊎ ((f : LineFault) × HeaderBreak t f)
 
-headed_next : (fuel n : ℕ) (t : List ℕ) (p : Progress) (rest : List ℕ) (r : Result (Progress × List ℕ) LineFault) → after n t ≡ Ok (p, rest) → is_done p.place ≡ false → length rest ≤ suc fuel
-    → header_cut (suc n) p (line_at rest) ≡ r → ((x : Progress × List ℕ) → after (suc n) t ≡ Ok (x.0, x.1) → length x.1 ≤ fuel → Headed t) → Headed t
+headed_next : (fuel n : ℕ) (t : List ℕ) (p : HeaderLines) (rest : List ℕ) (r : Result (HeaderLines × List ℕ) LineFault) → after n t ≡ Ok (p, rest) → is_whole p ≡ false → length rest ≤ suc fuel
+    → header_cut (suc n) p (line_at rest) ≡ r → ((x : HeaderLines × List ℕ) → after (suc n) t ≡ Ok (x.0, x.1) → length x.1 ≤ fuel → Headed t) → Headed t
 headed_next fuel n t p rest (Ok x) e on short r more = more x (after_next n t (p, rest) e ∙ r) (omega (arith, short, header_shorter (suc n) p rest x r))
 headed_next fuel n t p rest (Err f) e on short r more =
-    inr (f, record { before = n; progress = p; rest = rest; begun = record { reads = e; goes_on = on }; refused = rw (add-one n) r })
+    inr (f, record { before = n; lines = p; rest = rest; begun = record { reads = e; goes_on = on }; refused = rw (add-one n) r })
 
-headed_from : (fuel n : ℕ) (t : List ℕ) (p : Progress) (rest : List ℕ) → after n t ≡ Ok (p, rest) → length rest ≤ fuel → Headed t
+-- lines are whole, or the header goes on
+whole_or_on : (p : HeaderLines) → ((h : Header) × (p ≡ Whole h)) ⊎ (is_whole p ≡ false)
+whole_or_on NoLine = inr refl
+whole_or_on (Versioned v) = inr refl
+whole_or_on (Counted v n) = inr refl
+whole_or_on (LaidOut n b) = inr refl
+whole_or_on (Rows h) = inr refl
+whole_or_on (Whole h) = inl (h, refl)
+
+headed_from : (fuel n : ℕ) (t : List ℕ) (p : HeaderLines) (rest : List ℕ) → after n t ≡ Ok (p, rest) → length rest ≤ fuel → Headed t
 headed_from zero n t p rest e short =
-    elim (cases_Bool (is_done p.place)) [
-      | inl whole ↦ inl (n, p, rest, record { reads = e; whole = whole })
+    elim (whole_or_on p) [
+      | inl whole ↦ inl (n, whole.0, rest, record { reads = e ∙ ap (λ (q : HeaderLines). Ok (q, rest)) whole.1 })
       | inr on ↦
           let cut : header_cut (n + 1) p (line_at rest) ≡ refuse (n + 1) reason.Cut = rw (no_bytes rest short, nothing_open) refl in
-          inr (record { line = n + 1; reason = reason.Cut }, record { before = n; progress = p; rest = rest; begun = record { reads = e; goes_on = on }; refused = cut })
+          inr (record { line = n + 1; reason = reason.Cut }, record { before = n; lines = p; rest = rest; begun = record { reads = e; goes_on = on }; refused = cut })
     ]
 headed_from (suc fuel) n t p rest e short =
-    elim (cases_Bool (is_done p.place)) [
-      | inl whole ↦ inl (n, p, rest, record { reads = e; whole = whole })
+    elim (whole_or_on p) [
+      | inl whole ↦ inl (n, whole.0, rest, record { reads = e ∙ ap (λ (q : HeaderLines). Ok (q, rest)) whole.1 })
       | inr on ↦ headed_next fuel n t p rest (header_cut (suc n) p (line_at rest)) e on short refl (λ x f less. headed_from fuel (suc n) t x.0 x.1 f less)
     ]
 
 headed : (t : List ℕ) → Headed t
 unfolding after
-headed t = headed_from (length t) 0 t start t refl (omega arith)
+headed t = headed_from (length t) 0 t NoLine t refl (omega arith)
 
 -- a command that is taken leaves less text, and `end` leaves none
 record CommandRead (m : ℕ) (x : Command × List ℕ) : Type 0 where
@@ -119,7 +127,7 @@ cut_read line count m Open x less e = absurd cc
 command_read : (line count : ℕ) (t : List ℕ) (x : Command × List ℕ) → command_at line count t ≡ Ok x → CommandRead (length t) x
 command_read line count t x e = cut_read line count (length t) (line_at t) x (within_shorter 256 t) e
 
-no_command : (line count : ℕ) (t : List ℕ) (x : Command × List ℕ) → t ≡ [] → command_at line count t ≡ Ok x → ⊥
+pub no_command : (line count : ℕ) (t : List ℕ) (x : Command × List ℕ) → t ≡ [] → command_at line count t ≡ Ok x → ⊥
 no_command line count t x none e = let less : length x.1 < length t = (command_read line count t x e).shorter in omega (arith, less, ap length none)
 
 nothing_read : (line count : ℕ) (t : List ℕ) → t ≡ [] → command_at line count t ≡ refuse line reason.Cut
@@ -149,13 +157,13 @@ ends_all_by : (r : Result (List Command × List ℕ) LineFault) (line k : ℕ) (
 ends_all_by (Err f) line k x before e has = absurd cc
 ends_all_by (Ok y) line k x before e has = ends_step line k y (command_at line k y.1) x (before y refl) refl e has
 
-ends_all : (count base : ℕ) (t : List ℕ) (x : List Command × List ℕ) → commands_after count base t ≡ Ok x → has_end x.0 ≡ true → x.1 ≡ []
+pub ends_all : (count base : ℕ) (t : List ℕ) (x : List Command × List ℕ) → commands_after count base t ≡ Ok x → has_end x.0 ≡ true → x.1 ≡ []
 unfolding commands_after
 ends_all zero base t x e has = let same : ([], t) ≡ x = cc in absurd (false≢true (ap (λ (w : List Command × List ℕ). has_end w.0) same ∙ has))
 ends_all (suc count) base t x e has = ends_all_by (commands_after count base t) (base + suc count) count x (λ y f h. ends_all count base t y f h) e has
 
 -- no command follows one of them
-after_end : (m n base : ℕ) (t : List ℕ) (x y : List Command × List ℕ) → commands_after m base t ≡ Ok x → has_end x.0 ≡ true → commands_after n base t ≡ Ok y → m < n → ⊥
+pub after_end : (m n base : ℕ) (t : List ℕ) (x y : List Command × List ℕ) → commands_after m base t ≡ Ok x → has_end x.0 ≡ true → commands_after n base t ≡ Ok y → m < n → ⊥
 after_end m n base t x y a has b less =
     let line = base + (m + 1) in
     let fault : LineFault = record { line = line; reason = reason.Cut } in
@@ -172,10 +180,10 @@ ends_or_breaks m n base t x y f a has b on r =
     ]
 
 -- two headers of a text are one, and so the commands of both follow one of them
-moved : (t : List ℕ) (l m n : ℕ) (p q : Progress) (r s : List ℕ) (x : List Command × List ℕ) → HasHeader t l p r → HasHeader t m q s → commands_after n m (drop (images_len q) s) ≡ Ok x
+pub moved : (t : List ℕ) (l m n : ℕ) (p q : Header) (r s : List ℕ) (x : List Command × List ℕ) → HasHeader t l p r → HasHeader t m q s → commands_after n m (drop (images_len q) s) ≡ Ok x
     → commands_after n l (drop (images_len p) r) ≡ Ok x
 moved t l m n p q r s x a b e =
-    subst (λ (h : Progress × List ℕ). commands_after n l (behind_images h) ≡ Ok x) (same_header t m l q p s r b a)
+    subst (λ (h : Header × List ℕ). commands_after n l (behind_images h) ≡ Ok x) (same_header t m l q p s r b a)
     (subst (λ (k : ℕ). commands_after n k (behind_images (q, s)) ≡ Ok x) (same_lines t m l q p s r b a) e)
 
 -- a whole text has no break
@@ -191,7 +199,7 @@ commands_apart t commands f a b =
 images_apart : (t : List ℕ) (commands : List Command) (f : LineFault) → IsWhole t commands → ImagesBreak t f → ⊥
 images_apart t commands f a b =
     let header = same_header t b.lines a.lines b.progress a.has.progress b.rest a.has.rest b.header a.has.header in
-    let short : length a.has.rest < images_len a.has.progress = subst (λ (h : Progress × List ℕ). length h.1 < images_len h.0) header b.short in
+    let short : length a.has.rest < images_len a.has.progress = subst (λ (h : Header × List ℕ). length h.1 < images_len h.0) header b.short in
     omega (arith, short, a.has.images)
 
 apart : (t : List ℕ) (commands : List Command) (f : LineFault) → IsWhole t commands → TextBreak t f → ⊥
@@ -221,7 +229,7 @@ Told t = ((commands : List Command) × IsWhole t commands) ⊎ ((f : LineFault) 
 -- a header and whole images at the front of a text
 record Front (t : List ℕ) : Type 0 where
   lines : ℕ
-  progress : Progress
+  progress : Header
   rest : List ℕ
   header : HasHeader t lines progress rest
   images : images_len progress ≤ length rest
@@ -282,7 +290,7 @@ told_front : (t : List ℕ) (h : Front t) → Told t
 unfolding commands_after
 told_front t h = let there = drop (images_len h.progress) h.rest in told_from (length there) t h 0 [] there refl refl (omega arith)
 
-told_header : (t : List ℕ) (n : ℕ) (p : Progress) (rest : List ℕ) → HasHeader t n p rest → Told t
+told_header : (t : List ℕ) (n : ℕ) (p : Header) (rest : List ℕ) → HasHeader t n p rest → Told t
 told_header t n p rest header =
     elim (cases_lt (length rest) (images_len p)) [
       | inl short ↦ inr (record { line = n; reason = reason.Cut }, inr (inl (record { lines = n; progress = p; rest = rest; header = header; short = short; fault = refl })))

@@ -4,8 +4,8 @@ use Rattle.sched_text.specs.declared.faults.ScheduleFault.{ScheduleFault}
 use Rattle.sched_text.specs.declared.faults.ScheduleFault.TheVariants as schedule
 use Rattle.sched_text.specs.declared.faults.CommandFault.{CommandFault}
 use Rattle.sched_text.specs.declared.faults.CommandFault.TheVariants as command
-use Rattle.sched_text.specs.declared.reading.Stop.{Stop}
-use Rattle.sched_text.specs.declared.reading.Stop.TheVariants as stop
+use Rattle.sched_text.specs.declared.lines.Stop.{Stop}
+use Rattle.sched_text.specs.declared.lines.Stop.TheVariants as stop
 
 abbrev pub is_read : ScheduleFault → Bool
 is_read schedule.ReadFault = true

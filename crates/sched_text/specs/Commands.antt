@@ -22,9 +22,12 @@ end_at line (b ∷ rest) = refuse (line + 1) reason.Trailing
 -- a command line that 1,048,576 others may stand before; `end` isn't counted
 abbrev pub counted_at : ℕ → ℕ → List ℕ → Command → Result (Command × List ℕ) LineFault
 counted_at line count rest command =
-    if is_end command then end_at line rest else if nat_lt count MOST_COMMANDS then Ok (command, rest) else refuse line reason.TooMany
+    if is_end command then end_at line rest
+    else if nat_lt count MOST_COMMANDS then Ok (command, rest)
+    else refuse line reason.TooMany
 
-abbrev pub command_row : ℕ → ℕ → List ℕ → Result Command Reason → Result (Command × List ℕ) LineFault
+abbrev pub command_row : ℕ → ℕ → List ℕ → Result Command Reason
+    → Result (Command × List ℕ) LineFault
 command_row line count rest (Err why) = refuse line why
 command_row line count rest (Ok command) = counted_at line count rest command
 
@@ -33,16 +36,19 @@ command_cut line count (Line words rest) = command_row line count rest (command_
 command_cut line count Long = refuse line reason.LongLine
 command_cut line count Open = refuse line reason.Cut
 
--- the command at the front of a text, where its line has this number and so many command lines stand before it
+-- the command at the front of a text, where its line has this number and so many command lines
+-- stand before it
 abbrev pub command_at : ℕ → ℕ → List ℕ → Result (Command × List ℕ) LineFault
 command_at line count text = command_cut line count (line_at text)
 
-abbrev pub joined : List Command → Result (Command × List ℕ) LineFault → Result (List Command × List ℕ) LineFault
+abbrev pub joined : List Command → Result (Command × List ℕ) LineFault
+    → Result (List Command × List ℕ) LineFault
 joined before (Ok x) = Ok (before ++ x.0 ∷ [], x.1)
 joined before (Err f) = Err f
 
 -- one more command
-abbrev pub next_command : ℕ → ℕ → Result (List Command × List ℕ) LineFault → Result (List Command × List ℕ) LineFault
+abbrev pub next_command : ℕ → ℕ → Result (List Command × List ℕ) LineFault
+    → Result (List Command × List ℕ) LineFault
 next_command line count (Err f) = Err f
 next_command line count (Ok x) = joined x.0 (command_at line count x.1)
 
@@ -57,7 +63,8 @@ ends_hand [] (Ok command) = is_end command
 ends_hand (b ∷ rest) (Ok command) = false
 ends_hand rest (Err why) = false
 
--- whether a command can't be answered from the bytes in hand: they hold neither a whole line nor 256 bytes, or `end` and nothing more
+-- whether a command can't be answered from the bytes in hand: they hold neither a whole line nor
+-- 256 bytes, or `end` and nothing more
 abbrev pub cut_needs_read : LineCut → Bool
 cut_needs_read (Line line rest) = ends_hand rest (command_of line)
 cut_needs_read Long = false

@@ -1,155 +1,180 @@
--- The lines up to `images`, one by one.
-use Rattle.std.specs.Prelude.{◌≡◌, ℕ, zero, suc, ◌+◌, ◌<◌, ◌≤◌, if◌then◌else◌, nat_lt, Bool, true, false, List, [], ◌∷◌, ◌++◌, length, Option, Some, None, Result, Ok, Err, codes, ⊤}
+-- The header: the lines up to `images`, and the first of them that is refused.
+use Rattle.std.specs.Prelude.{◌≡◌, ℕ, zero, suc, ◌+◌, ◌≤◌, if◌then◌else◌, nat_lt, Bool, true, false, List, [], ◌∷◌, ◌++◌, length, Option, Some, None, Result, Ok, Err, codes, ⊤}
 use Rattle.std.specs.List.{All}
+use Rattle.ctr_port.specs.InHand.{Of}
 use Rattle.perf_sample.specs.Layout.{IsLayout, IsBranchWord}
 use Rattle.sched_text.specs.Lines.{LineCut, Line, Long, Open, line_at}
-use Rattle.sched_text.specs.Rows.{then_with, has_form, version_of, harts_of, layout_of, branch_of, task_of, irq_of, IsTask}
+use Rattle.sched_text.specs.Rows.{◌>>=◌, has_form, version_of, harts_of, layout_of, branch_of, task_of, irq_of, IsTask}
 use Rattle.sched_text.specs.Irqs.{irq_refusal, IsIrq, AllFollow}
-use Rattle.sched_text.specs.declared.heading.Place.{Place}
-use Rattle.sched_text.specs.declared.heading.Place.TheVariants as place
-use Rattle.sched_text.specs.declared.heading.Progress.{Progress}
-use Rattle.sched_text.specs.declared.heading.StepFault.{StepFault}
-use Rattle.sched_text.specs.declared.heading.StepFault.TheVariants as fault
 use Rattle.sched_text.specs.declared.rows.IrqWords.{IrqWords}
 use Rattle.sched_text.specs.declared.rows.Version.{Version}
 use Rattle.sched_text.specs.declared.rows.Version.TheVariants as version
+use Rattle.sched_text.specs.declared.schedule.Header.{Header}
+use Rattle.sched_text.specs.declared.schedule.TaskLine.{TaskLine}
 use Rattle.sched_text.specs.declared.schedule.IrqLine.{IrqLine}
 use Rattle.sched_text.specs.declared.faults.Reason.{Reason}
 use Rattle.sched_text.specs.declared.faults.Reason.TheVariants as reason
 use Rattle.sched_text.specs.declared.faults.LineFault.{LineFault}
+use Rattle.sched_text.specs.declared.faults.ScheduleFault.{ScheduleFault}
+use Rattle.sched_text.specs.declared.faults.ScheduleFault.TheVariants as fault
 use Rattle.sched_text.specs.declared.limits.TheConstants.{MOST_TASKS}
 
--- before the first line; the number of harts and the layout are overwritten by their lines, and the branch word by its line, if
--- there is one
-abbrev pub start : Progress
-start = record { place = place.Version; harts = 1; layout = 0x800; branch = 0; tasks = []; irqs = [] }
+-- the lines of a header so far, by what they say
+pub data HeaderLines : Type 0 where
+  -- none
+  NoLine : HeaderLines
+  -- ctr-schedule VERSION
+  Versioned : Version → HeaderLines
+  -- ctr-schedule VERSION, harts N
+  Counted : Version → ℕ → HeaderLines
+  -- ctr-schedule 2, harts N, layout HEX: a branch line comes next
+  LaidOut : ℕ → ℕ → HeaderLines
+  -- these lines, the branch line of version 2, task lines, and irq lines
+  Rows : Header → HeaderLines
+  -- all of them, and `images`
+  Whole : Header → HeaderLines
 
-abbrev pub version_step : Progress → List ℕ → Result Progress Reason
-version_step p line = then_with (version_of line) (λ v. Ok (record p { place = place.Harts v }))
+-- a header without task lines
+abbrev pub no_rows : ℕ → ℕ → ℕ → Header
+no_rows harts layout branch =
+    record { harts = harts; layout = layout; branch = branch; tasks = []; irqs = [] }
 
-abbrev pub harts_step : Version → Progress → List ℕ → Result Progress Reason
-harts_step v p line = then_with (harts_of line) (λ harts. Ok (record p { harts = harts; place = place.Layout v }))
+-- the layout is the last line before the task lines in version 1, whose branch word is 0
+abbrev pub with_layout : Version → ℕ → ℕ → HeaderLines
+with_layout version.One harts layout = Rows (no_rows harts layout 0)
+with_layout version.Two harts layout = LaidOut harts layout
 
--- version 1 has no branch line
-abbrev pub after_layout : Version → Place
-after_layout version.One = place.FirstTask
-after_layout version.Two = place.Branch
+-- a task line, where there are fewer than 64
+abbrev pub add_task : Header → TaskLine → Result HeaderLines Reason
+add_task h task =
+    if nat_lt (length h.tasks) MOST_TASKS then Ok (Rows (record h { tasks = h.tasks ++ task ∷ [] }))
+    else Err reason.TooMany
 
-abbrev pub layout_step : Version → Progress → List ℕ → Result Progress Reason
-layout_step v p line = then_with (layout_of line) (λ bits. Ok (record p { layout = bits; place = after_layout v }))
-
-abbrev pub branch_step : Progress → List ℕ → Result Progress Reason
-branch_step p line = then_with (branch_of line) (λ bits. Ok (record p { branch = bits; place = place.FirstTask }))
-
-abbrev pub task_step : Progress → List ℕ → Result Progress Reason
-task_step p line = then_with (task_of line) (λ task.
-    if nat_lt (length p.tasks) MOST_TASKS then Ok (record p { tasks = p.tasks ++ task ∷ []; place = place.Tasks }) else Err reason.TooMany)
-
--- a line that is judged by those of its task
-abbrev pub irq_judged : Progress → IrqLine → Option Reason → Result Progress Reason
-irq_judged p irq None = Ok (record p { irqs = p.irqs ++ irq ∷ []; place = place.Irqs })
-irq_judged p irq (Some why) = Err why
+abbrev pub with_task : Header → List ℕ → Result HeaderLines Reason
+with_task h line = do
+  task ← task_of line
+  add_task h task
 
 abbrev pub irq_line : IrqWords → IrqLine
 irq_line irq = record { task = irq.task; step = irq.step; cause = irq.cause }
 
--- a task that isn't there has no irq lines, so none of them is one too many
-abbrev pub irq_step : Progress → List ℕ → Result Progress Reason
-irq_step p line = then_with (irq_of line) (λ irq.
-    if nat_lt irq.task (length p.tasks) then irq_judged p (irq_line irq) (irq_refusal p.irqs (irq_line irq)) else Err reason.NoTask)
+abbrev pub add_judged : Header → IrqLine → Option Reason → Result HeaderLines Reason
+add_judged h irq None = Ok (Rows (record h { irqs = h.irqs ++ irq ∷ [] }))
+add_judged h irq (Some why) = Err why
 
-abbrev pub images_step : Progress → List ℕ → Result Progress Reason
-images_step p line = if has_form line (codes "images") 1 then Ok (record p { place = place.Images }) else Err reason.NotWord
+-- an irq line of a task that is there, where it may follow those before it. A task that isn't there
+-- has none, so none is too many
+abbrev pub add_irq : Header → IrqWords → Result HeaderLines Reason
+add_irq h irq =
+    if nat_lt irq.task (length h.tasks) then
+    add_judged h (irq_line irq) (irq_refusal h.irqs (irq_line irq))
+    else Err reason.NoTask
 
--- after an irq line only a further one or `images` may stand
-abbrev pub after_irq_step : Progress → List ℕ → Result Progress Reason
-after_irq_step p line = if has_form line (codes "irq") 4 then irq_step p line else images_step p line
+abbrev pub with_irq : Header → List ℕ → Result HeaderLines Reason
+with_irq h line = do
+  irq ← irq_of line
+  add_irq h irq
 
-abbrev pub after_task_step : Progress → List ℕ → Result Progress Reason
-after_task_step p line = if has_form line (codes "task") 7 then task_step p line else after_irq_step p line
+abbrev pub with_images : Header → List ℕ → Result HeaderLines Reason
+with_images h line = if has_form line (codes "images") 1 then Ok (Whole h) else Err reason.NotWord
 
--- one more line
-abbrev pub step_at : Place → Progress → List ℕ → Result Progress Reason
-step_at place.Version p line = version_step p line
-step_at (place.Harts v) p line = harts_step v p line
-step_at (place.Layout v) p line = layout_step v p line
-step_at place.Branch p line = branch_step p line
-step_at place.FirstTask p line = task_step p line
-step_at place.Tasks p line = after_task_step p line
-step_at place.Irqs p line = after_irq_step p line
-step_at place.Images p line = Err reason.NotWord
+abbrev pub irq_or_images : Header → List ℕ → Result HeaderLines Reason
+irq_or_images h line = if has_form line (codes "irq") 4 then with_irq h line else with_images h line
 
-abbrev pub step : Progress → List ℕ → Result Progress Reason
-step p line = step_at p.place p line
+-- a task line comes first; a task line, an irq line or `images` behind it; and behind an irq line
+-- no task line
+abbrev pub with_row : List IrqLine → List TaskLine → Header → List ℕ → Result HeaderLines Reason
+with_row [] [] h line = with_task h line
+with_row [] (task ∷ tasks) h line =
+    if has_form line (codes "task") 7 then with_task h line else irq_or_images h line
+with_row (irq ∷ irqs) tasks h line = irq_or_images h line
 
--- what a step of the reader says of it
-abbrev pub Stepped : Result Progress Reason → Progress → Result (Unit {0}) StepFault → Type 0
-Stepped stepped new (Ok _) = stepped ≡ Ok new
-Stepped stepped new (Err (fault.Refused why)) = stepped ≡ Err why
-Stepped stepped new (Err fault.Memory) = ⊤
+-- one more line, or the first rule that it breaks
+abbrev pub with_line : HeaderLines → List ℕ → Result HeaderLines Reason
+with_line NoLine line = do
+  version ← version_of line
+  Ok (Versioned version)
+with_line (Versioned version) line = do
+  harts ← harts_of line
+  Ok (Counted version harts)
+with_line (Counted version harts) line = do
+  layout ← layout_of line
+  Ok (with_layout version harts layout)
+with_line (LaidOut harts layout) line = do
+  branch ← branch_of line
+  Ok (Rows (no_rows harts layout branch))
+with_line (Rows h) line = with_row h.irqs h.tasks h line
+with_line (Whole h) line = Err reason.NotWord
 
--- a task line was read
-abbrev pub has_tasks : Place → Bool
-has_tasks place.Tasks = true
-has_tasks place.Irqs = true
-has_tasks place.Images = true
-has_tasks _ = false
-
--- an irq line may have been read
-abbrev pub has_irqs : Place → Bool
-has_irqs place.Irqs = true
-has_irqs place.Images = true
-has_irqs _ = false
-
--- what was read has its numbers in their ranges, and its irq lines may follow one another
-pub record Sound (p : Progress) : Type 0 where
-  pub one_hart : 1 ≤ p.harts
-  pub harts : p.harts ≤ 16
-  pub layout : IsLayout p.layout
-  pub branch : IsBranchWord p.branch
-  pub few : length p.tasks ≤ MOST_TASKS
-  pub tasks : All IsTask p.tasks
-  pub irqs : All (IsIrq (length p.tasks)) p.irqs
-  pub order : AllFollow p.irqs
-  pub some : has_tasks p.place ≡ true → 0 < length p.tasks
-  pub early : has_irqs p.place ≡ false → p.irqs ≡ []
-
--- how many lines have been read at most: in version 1 there is one less from the first task line on
-abbrev pub lines_before : Place → ℕ
-lines_before place.Version = 0
-lines_before (place.Harts v) = 1
-lines_before (place.Layout v) = 2
-lines_before place.Branch = 3
-lines_before place.FirstTask = 4
-lines_before place.Tasks = 4
-lines_before place.Irqs = 4
-lines_before place.Images = 5
-
-abbrev pub lines_of : Progress → ℕ
-lines_of p = lines_before p.place + length p.tasks + length p.irqs
-
-abbrev pub is_done : Place → Bool
-is_done place.Images = true
-is_done _ = false
+abbrev pub is_whole : HeaderLines → Bool
+is_whole (Whole h) = true
+is_whole _ = false
 
 abbrev pub refuse : {A : Type 0} → ℕ → Reason → Result A LineFault
 refuse line why = Err (record { line = line; reason = why })
 
-abbrev pub row_cut : ℕ → List ℕ → Result Progress Reason → Result (Progress × List ℕ) LineFault
-row_cut n rest (Ok p) = Ok (p, rest)
+abbrev pub row_cut : {A : Type 0} → ℕ → List ℕ → Result A Reason → Result (A × List ℕ) LineFault
+row_cut n rest (Ok lines) = Ok (lines, rest)
 row_cut n rest (Err why) = refuse n why
 
--- line n, where the lines before it came to p
-abbrev pub header_cut : ℕ → Progress → LineCut → Result (Progress × List ℕ) LineFault
-header_cut n p (Line line rest) = row_cut n rest (step p line)
-header_cut n p Long = refuse n reason.LongLine
-header_cut n p Open = refuse n reason.Cut
+-- line n, behind these
+abbrev pub header_cut : ℕ → HeaderLines → LineCut → Result (HeaderLines × List ℕ) LineFault
+header_cut n lines (Line line rest) = row_cut n rest (with_line lines line)
+header_cut n lines Long = refuse n reason.LongLine
+header_cut n lines Open = refuse n reason.Cut
 
-abbrev pub next_line : ℕ → Result (Progress × List ℕ) LineFault → Result (Progress × List ℕ) LineFault
+abbrev pub next_line : ℕ → Result (HeaderLines × List ℕ) LineFault
+    → Result (HeaderLines × List ℕ) LineFault
 next_line n (Ok x) = header_cut n x.0 (line_at x.1)
 next_line n (Err f) = Err f
 
--- what the first n lines of a text come to, and what follows them
-unfoldable pub after : ℕ → List ℕ → Result (Progress × List ℕ) LineFault
-after zero text = Ok (start, text)
+-- the first n lines of a text, and what follows them
+unfoldable pub after : ℕ → List ℕ → Result (HeaderLines × List ℕ) LineFault
+after zero text = Ok (NoLine, text)
 after (suc n) text = next_line (suc n) (after n text)
+
+-- a header stands at the front of a text: its last line has this number, and this follows it
+pub record HasHeader (text : List ℕ) (lines : ℕ) (h : Header) (rest : List ℕ) : Type 0 where
+  pub reads : after lines text ≡ Ok (Whole h, rest)
+
+-- so many lines at the front of a text are taken, and the header goes on
+pub record IsBegun (text : List ℕ) (count : ℕ) (lines : HeaderLines) (rest : List ℕ) : Type 0 where
+  pub reads : after count text ≡ Ok (lines, rest)
+  pub goes_on : is_whole lines ≡ false
+
+-- a text is refused in its header: the line after those that are taken
+pub record HeaderBreak (text : List ℕ) (f : LineFault) : Type 0 where
+  pub before : ℕ
+  pub lines : HeaderLines
+  pub rest : List ℕ
+  pub begun : IsBegun text before lines rest
+  pub refused : header_cut (before + 1) lines (line_at rest) ≡ Err f
+
+-- what a header says is in the ranges of its lines, and its irq lines may follow one another
+pub record IsHeader (h : Header) : Type 0 where
+  pub one_hart : 1 ≤ h.harts
+  pub harts : h.harts ≤ 16
+  pub layout : IsLayout h.layout
+  pub branch : IsBranchWord h.branch
+  pub one_task : 1 ≤ length h.tasks
+  pub few : length h.tasks ≤ MOST_TASKS
+  pub tasks : All IsTask h.tasks
+  pub irqs : All (IsIrq (length h.tasks)) h.irqs
+  pub order : AllFollow h.irqs
+
+-- the line after those that are taken was begun
+abbrev pub IsCutOff : ℕ → List ℕ → List ℕ → Type 0
+IsCutOff line text rest =
+    (before : ℕ) × (lines : HeaderLines) × (line ≡ before + 1) × IsBegun text before lines rest
+
+-- a header is answered, or a line refused, as defined of the text, where `line` is the number of
+-- the line last begun. After a failed read no whole line is in hand, and only whole lines were
+-- passed over
+abbrev pub HeaderAnswer : ℕ → Option (List ℕ) → Option (List ℕ) → List ℕ
+    → Result Header ScheduleFault → Type 0
+HeaderAnswer line text text' hand (Ok h) = Of text text' (λ t t'. HasHeader t line h t')
+HeaderAnswer line text text' hand (Err (fault.Line f)) =
+    (f.line ≡ line) × Of text text' (λ t t'. HeaderBreak t f)
+HeaderAnswer line text text' hand (Err fault.ReadFault) =
+    (line_at hand ≡ Open) × Of text text' (IsCutOff line)
+HeaderAnswer line text text' hand (Err fault.Memory) = ⊤

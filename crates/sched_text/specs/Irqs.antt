@@ -17,7 +17,8 @@ last irqs = fold (λ _ irq. Some irq) None irqs
 
 -- the step is below that of a line, or equal with a cause that isn't greater
 abbrev pub is_early : IrqLine → IrqLine → Bool
-is_early before irq = nat_lt irq.step before.step || nat_eq irq.step before.step && nat_le irq.cause before.cause
+is_early before irq =
+    nat_lt irq.step before.step || nat_eq irq.step before.step && nat_le irq.cause before.cause
 
 abbrev pub order_refusal : Option IrqLine → IrqLine → Option Reason
 order_refusal None irq = None
@@ -25,7 +26,8 @@ order_refusal (Some before) irq = if is_early before irq then Some reason.IrqOrd
 
 -- why a line may not follow these of its task: there are 1,024, or it is early after the last
 abbrev pub refusal_after : List IrqLine → IrqLine → Option Reason
-refusal_after lines irq = if nat_le MOST_IRQS (length lines) then Some reason.TooMany else order_refusal (last lines) irq
+refusal_after lines irq =
+    if nat_le MOST_IRQS (length lines) then Some reason.TooMany else order_refusal (last lines) irq
 
 -- why a line may not follow those before it
 abbrev pub irq_refusal : List IrqLine → IrqLine → Option Reason
@@ -40,7 +42,8 @@ pub record IsIrq (tasks : ℕ) (irq : IrqLine) : Type 0 where
 -- each of the lines may follow those before it
 unfoldable pub follow_on : List IrqLine → List IrqLine → Type 0
 follow_on before [] = ⊤
-follow_on before (irq ∷ rest) = (irq_refusal before irq ≡ None) × follow_on (before ++ irq ∷ []) rest
+follow_on before (irq ∷ rest) =
+    (irq_refusal before irq ≡ None) × follow_on (before ++ irq ∷ []) rest
 
 abbrev pub AllFollow : List IrqLine → Type 0
 AllFollow irqs = follow_on [] irqs

@@ -1,4 +1,5 @@
--- The lines of a text and the words of a line. A line ends with one LF, and words are parted by one space.
+-- The lines of a text and the words of a line. A line ends with one LF, and words are parted by one
+-- space.
 use Rattle.std.specs.Prelude.{ℕ, zero, suc, Bool, if◌then◌else◌, eqb, List, [], ◌∷◌, get_or}
 use Rattle.std.specs.List.{slice_split}
 use Rattle.sched_text.specs.declared.limits.TheConstants.{LINE_LIMIT}
@@ -22,7 +23,8 @@ put_front b Open = Open
 unfoldable pub line_within : ℕ → List ℕ → LineCut
 line_within zero text = Long
 line_within (suc room) [] = Open
-line_within (suc room) (b ∷ text) = if eqb b 10 then Line [] text else put_front b (line_within room text)
+line_within (suc room) (b ∷ text) =
+    if eqb b 10 then Line [] text else put_front b (line_within room text)
 
 abbrev pub line_at : List ℕ → LineCut
 line_at text = line_within LINE_LIMIT text

@@ -24,7 +24,9 @@ mark_of task irqs = fold (note task) no_mark irqs
 abbrev pub mark_refusal : Mark → IrqLine → Option Reason
 mark_refusal m irq =
     if nat_le MOST_IRQS m.count then Some reason.TooMany
-    else if nat_lt 0 m.count && (nat_lt irq.step m.step || nat_eq irq.step m.step && nat_le irq.cause m.cause) then Some reason.IrqOrder
+    else if nat_lt 0 m.count
+    && (nat_lt irq.step m.step || nat_eq irq.step m.step && nat_le irq.cause m.cause) then
+    Some reason.IrqOrder
     else None
 
 -- the marks of the 64 tasks that there can be

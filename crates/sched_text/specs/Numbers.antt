@@ -3,20 +3,20 @@ use Rattle.std.specs.Prelude.{ℕ, ◌+◌, ◌*◌, ◌-◌, ◌^◌, min, Bool
 use Rattle.std.specs.List.{fold, list_all}
 
 -- the number that a digit stands for, of either case, or 16
-abbrev pub face : ℕ → ℕ
-face b =
+abbrev pub digit_value : ℕ → ℕ
+digit_value b =
     if nat_lt b 48 then 16 else if nat_lt b 58 then b - 48
     else if nat_lt b 65 then 16 else if nat_lt b 71 then b - 55
     else if nat_lt b 97 then 16 else if nat_lt b 103 then b - 87
     else 16
 
 abbrev pub digits_value : ℕ → List ℕ → ℕ
-digits_value base digits = fold (λ n b. n * base + face b) 0 digits
+digits_value base digits = fold (λ n b. n * base + digit_value b) 0 digits
 
 -- one digit at least, and nothing else
 abbrev pub are_digits : ℕ → List ℕ → Bool
 are_digits base [] = false
-are_digits base (b ∷ bs) = list_all (λ d. nat_lt (face d) base) (b ∷ bs)
+are_digits base (b ∷ bs) = list_all (λ d. nat_lt (digit_value d) base) (b ∷ bs)
 
 -- one past the end of 64 bits counts as 2 ^ 64, since no range reaches so far
 abbrev pub number : ℕ → List ℕ → Option ℕ

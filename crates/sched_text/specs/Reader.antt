@@ -30,12 +30,16 @@ EndsAt (Line line rest) text = (command_of line ≡ Ok command.End) × (rest ≡
 EndsAt Long text = ⊥
 EndsAt Open text = ⊥
 
--- a command is answered, or a line refused, as defined of the text. After a failed read no whole line is in hand, and nothing
--- was passed over; or the line `end` was, and nothing is in hand
-abbrev pub Shows : (List ℕ → Result (Command × List ℕ) LineFault) → Option (List ℕ) → Option (List ℕ) → List ℕ → Result Command CommandFault → Type 0
-Shows defined text text' hand (Ok command) = Of text text' (λ t t'. defined t ≡ Ok (command, t'))
-Shows defined text text' hand (Err (fault.Line f)) = Of text text' (λ t t'. defined t ≡ Err f)
-Shows defined text text' hand (Err fault.ReadFault) = (line_at hand ≡ Open) × Of text text' (λ t t'. (t' ≡ t) ⊎ ((hand ≡ []) × EndsAt (line_at t) t'))
+-- a command is answered, or a line refused, as defined of the text. After a failed read no whole
+-- line is in hand, and nothing was passed over; or the line `end` was, and nothing is in hand
+abbrev pub CommandAnswer : (List ℕ → Result (Command × List ℕ) LineFault) → Option (List ℕ)
+    → Option (List ℕ) → List ℕ → Result Command CommandFault → Type 0
+CommandAnswer defined text text' hand (Ok command) =
+    Of text text' (λ t t'. defined t ≡ Ok (command, t'))
+CommandAnswer defined text text' hand (Err (fault.Line f)) =
+    Of text text' (λ t t'. defined t ≡ Err f)
+CommandAnswer defined text text' hand (Err fault.ReadFault) =
+    (line_at hand ≡ Open) × Of text text' (λ t t'. (t' ≡ t) ⊎ ((hand ≡ []) × EndsAt (line_at t) t'))
 
 -- the fault of a command among those of the whole schedule
 abbrev pub widened : CommandFault → ScheduleFault
@@ -46,11 +50,13 @@ abbrev pub refusal : Result Command CommandFault → Option ScheduleFault
 refusal (Ok command) = None
 refusal (Err f) = Some (widened f)
 
--- nothing follows the line `end`, or something does. After a failed read nothing is in hand, and nothing was passed over
-abbrev pub Finishes : ℕ → Option (List ℕ) → Option (List ℕ) → List ℕ → Result (Unit {0}) CommandFault → Type 0
-Finishes line text text' hand (Ok _) = Of text text' (λ t t'. end_at line t ≡ Ok (command.End, t'))
-Finishes line text text' hand (Err (fault.Line f)) = Of text text' (λ t t'. end_at line t ≡ Err f)
-Finishes line text text' hand (Err fault.ReadFault) = (hand ≡ []) × Of text text' (λ t t'. t' ≡ t)
+-- nothing follows the line `end`, or something does. After a failed read nothing is in hand, and
+-- nothing was passed over
+abbrev pub EndAnswer : ℕ → Option (List ℕ) → Option (List ℕ) → List ℕ
+    → Result (Unit {0}) CommandFault → Type 0
+EndAnswer line text text' hand (Ok _) = Of text text' (λ t t'. end_at line t ≡ Ok (command.End, t'))
+EndAnswer line text text' hand (Err (fault.Line f)) = Of text text' (λ t t'. end_at line t ≡ Err f)
+EndAnswer line text text' hand (Err fault.ReadFault) = (hand ≡ []) × Of text text' (λ t t'. t' ≡ t)
 
 -- the answer of a call that read the line `end`
 abbrev pub ended : Result (Unit {0}) CommandFault → Result Command CommandFault

@@ -1,35 +1,36 @@
 -- The whole text: where it breaks first.
 use Rattle.std.specs.Prelude.{◌≡◌, ◌⊎◌, ℕ, ◌+◌, ◌<◌, ◌≤◌, Bool, true, false, List, length, take, drop, Ok, Err}
 use Rattle.std.specs.List.{sum_by, list_any}
-use Rattle.sched_text.specs.Heads.{HasHeader, HeaderBreak}
+use Rattle.sched_text.specs.Header.{HasHeader, HeaderBreak}
 use Rattle.sched_text.specs.Commands.{is_end, command_at, commands_after}
-use Rattle.sched_text.specs.declared.heading.Progress.{Progress}
+use Rattle.sched_text.specs.declared.schedule.Header.{Header}
 use Rattle.sched_text.specs.declared.schedule.Command.{Command}
 use Rattle.sched_text.specs.declared.faults.Reason.TheVariants as reason
 use Rattle.sched_text.specs.declared.faults.LineFault.{LineFault}
 
 -- how many bytes the images have together
-abbrev pub images_len : Progress → ℕ
+abbrev pub images_len : Header → ℕ
 images_len p = sum_by (λ t. t.image) p.tasks
 
 -- how many bytes the images of the first tasks have together
-abbrev pub first_images_len : Progress → ℕ → ℕ
+abbrev pub first_images_len : Header → ℕ → ℕ
 first_images_len p tasks = sum_by (λ t. t.image) (take tasks p.tasks)
 
 -- the image of a task is whole: its bytes, behind those of the tasks before it
 pub record HasImage (text : List ℕ) (task : ℕ) (image : List ℕ) : Type 0 where
   pub lines : ℕ
-  pub progress : Progress
+  pub progress : Header
   pub rest : List ℕ
   pub header : HasHeader text lines progress rest
   pub there : task < length progress.tasks
   pub whole : first_images_len progress (task + 1) ≤ length rest
-  pub bytes : image ≡ drop (first_images_len progress task) (take (first_images_len progress (task + 1)) rest)
+  pub bytes : image
+      ≡ drop (first_images_len progress task) (take (first_images_len progress (task + 1)) rest)
 
 -- the text ends inside the images, which counts for the line `images`
 pub record ImagesBreak (text : List ℕ) (f : LineFault) : Type 0 where
   pub lines : ℕ
-  pub progress : Progress
+  pub progress : Header
   pub rest : List ℕ
   pub header : HasHeader text lines progress rest
   pub short : length rest < images_len progress
@@ -39,8 +40,9 @@ abbrev pub has_end : List Command → Bool
 has_end commands = list_any is_end commands
 
 -- the header and the images are whole, and so many commands after them
-pub record HasCommands (text : List ℕ) (lines count : ℕ) (commands : List Command) (behind : List ℕ) : Type 0 where
-  pub progress : Progress
+pub record HasCommands (text : List ℕ) (lines count : ℕ) (commands : List Command) (behind : List ℕ)
+    : Type 0 where
+  pub progress : Header
   pub rest : List ℕ
   pub header : HasHeader text lines progress rest
   pub images : images_len progress ≤ length rest
@@ -70,12 +72,19 @@ pub record IsWhole (text : List ℕ) (commands : List Command) : Type 0 where
 
 -- the text is whole or broken, and not both; and a whole text has one list of commands
 pub record WholeOrBroken (text : List ℕ) : Type 0 where
-  pub some : ((commands : List Command) × IsWhole text commands) ⊎ ((f : LineFault) × TextBreak text f)
-  pub not_both : (commands : List Command) (f : LineFault) → IsWhole text commands → TextBreak text f → ⊥
-  pub one : (first second : List Command) → IsWhole text first → IsWhole text second → first ≡ second
+  pub some : ((commands : List Command) × IsWhole text commands)
+      ⊎ ((f : LineFault) × TextBreak text f)
+  pub not_both : (commands : List Command) (f : LineFault) → IsWhole text commands
+      → TextBreak text f → ⊥
+  pub one : (first second : List Command) → IsWhole text first → IsWhole text second
+      → first ≡ second
 
--- what is whole before a break, or before the end, is one of each: a header, an image of each task, and a list of commands
+-- what is whole before a break, or before the end, is one of each: a header, an image of each task,
+-- and a list of commands
 pub record OneOfEach (text : List ℕ) : Type 0 where
-  pub header : (m n : ℕ) (p q : Progress) (r s : List ℕ) → HasHeader text m p r → HasHeader text n q s → (m ≡ n) × (p ≡ q) × (r ≡ s)
-  pub image : (task : ℕ) (first second : List ℕ) → HasImage text task first → HasImage text task second → first ≡ second
-  pub commands : (f g : LineFault) (first : CommandsBreak text f) (second : CommandsBreak text g) → first.commands ≡ second.commands
+  pub header : (m n : ℕ) (p q : Header) (r s : List ℕ) → HasHeader text m p r
+      → HasHeader text n q s → (m ≡ n) × (p ≡ q) × (r ≡ s)
+  pub image : (task : ℕ) (first second : List ℕ) → HasImage text task first
+      → HasImage text task second → first ≡ second
+  pub commands : (f g : LineFault) (first : CommandsBreak text f) (second : CommandsBreak text g)
+      → first.commands ≡ second.commands

@@ -6,11 +6,11 @@ ghost use Rattle.ctr_port.specs.Counts.{HasCause};
 ghost use Rattle.ctr_port.specs.InHand.{text_of};
 ghost use Rattle.sched_text.specs.Commands.{is_end, command_at, needs_read};
 ghost use Rattle.sched_text.specs.Rows.{IsCommand};
-ghost use Rattle.sched_text.specs.Reader.{Shows, Finishes, ended};
+ghost use Rattle.sched_text.specs.Reader.{CommandAnswer, EndAnswer, ended};
 
 use crate::faults::{CommandFault, LineFault, Reason};
 use crate::limits::{MOST_COMMANDS, WINDOW};
-use crate::reading::{Stop, read_line};
+use crate::lines::{Stop, read_line};
 use crate::rows::command_row;
 use crate::schedule::Command;
 use crate::window::Window;
@@ -26,7 +26,8 @@ pub(crate) fn is_end(command: &Command) -> bool
 // Looks past the line feed of `end`, where nothing may follow. The line has this number.
 fn finish<S: Source>(window: &mut Window, source: &mut S, line: u32) -> Result<(), CommandFault>
     requires { line < 2 ^ 32 - 1 }
-    ensures finishes { Finishes line (text_of window.old (S.left source.old)) (text_of window.new (S.left source.new)) window.new result }
+    ensures finishes { EndAnswer line (text_of window.old (S.left source.old))
+        (text_of window.new (S.left source.new)) window.new result }
     ensures cause { HasCause is_command_read (S.faults source.old) (S.faults source.new) result }
     ensures still { 0 < length window.old → source.new ≡ source.old }
     ensures hand { length window.new ≤ WINDOW }
@@ -65,7 +66,9 @@ pub(crate) fn next_command<S: Source>(
     commands: u32,
 ) -> Result<Command, CommandFault>
     requires { line < 2 ^ 32 - 1 }
-    ensures shows { Shows (command_at line commands) (text_of window.old (S.left source.old)) (text_of window.new (S.left source.new)) window.new result }
+    ensures shows { CommandAnswer (command_at line commands)
+        (text_of window.old (S.left source.old))
+        (text_of window.new (S.left source.new)) window.new result }
     ensures cause { HasCause is_command_read (S.faults source.old) (S.faults source.new) result }
     ensures still { needs_read window.old ≡ false → source.new ≡ source.old }
     ensures range { IfOk result IsCommand }

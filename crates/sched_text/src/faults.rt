@@ -1,7 +1,7 @@
 //! Why a schedule is refused.
 
-/// Why a line is refused, in the order in which the rules apply. No reader answers `NoHart`, `NotResident`, `EmptyHart`, or
-/// `NoTask` of a command: whoever performs the commands does.
+/// Why a line is refused, in the order in which the rules apply. No reader answers `NoHart`,
+/// `NotResident`, `EmptyHart`, or `NoTask` of a command: whoever performs the commands does.
 #[derive(Clone, Copy, Debug, PartialEq, Eq)]
 pub enum Reason {
     /// 256 bytes came without a line feed.
@@ -41,7 +41,8 @@ pub struct LineFault {
 #[derive(Clone, Copy, Debug, PartialEq, Eq)]
 pub enum ScheduleFault {
     Line(LineFault),
-    /// A read failed. It comes only where the source's count of faults rose, or was answered before.
+    /// A read failed. It comes only where the source's count of faults rose, or was answered
+    /// before.
     ReadFault,
     /// No memory was found.
     Memory,
@@ -51,6 +52,7 @@ pub enum ScheduleFault {
 #[derive(Clone, Copy, Debug, PartialEq, Eq)]
 pub enum CommandFault {
     Line(LineFault),
-    /// A read failed. It comes only where the source's count of faults rose, or was answered before.
+    /// A read failed. It comes only where the source's count of faults rose, or was answered
+    /// before.
     ReadFault,
 }

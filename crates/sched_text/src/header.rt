@@ -4,13 +4,13 @@ ghost use Rattle.std.specs.Prelude.{◌≡◌, ◌≤◌, ◌<◌, ◌+◌, ◌-
 ghost use Rattle.sched_text.specs.Causes.{is_read};
 ghost use Rattle.ctr_port.specs.Counts.{HasCause};
 ghost use Rattle.ctr_port.specs.InHand.{text_of};
-ghost use Rattle.sched_text.specs.Header.{lines_of, is_done, Sound};
-ghost use Rattle.sched_text.specs.Heads.{OneLine, Heads, IsHeader};
+ghost use Rattle.sched_text.specs.Header.{HeaderAnswer, IsHeader};
+ghost use Rattle.sched_text.specs.Progress.{lines_of, is_done, Sound, OneLine};
 
 use crate::faults::{LineFault, Reason, ScheduleFault};
-use crate::heading::{Place, Progress, StepFault};
 use crate::limits::{HEADER_LINES, WINDOW};
-use crate::reading::{Stop, read_line};
+use crate::lines::{Stop, read_line};
+use crate::progress::{Place, Progress, StepFault};
 use crate::schedule::Header;
 use crate::window::Window;
 use ctr_port::Source;
@@ -25,7 +25,8 @@ fn one_line<S: Source>(
 ) -> Result<(), ScheduleFault>
     requires sound { Sound progress.old }
     requires irqs { length progress.old.irqs ≤ 65537 }
-    ensures line { OneLine line progress.old progress.new (text_of window.old (S.left source.old)) (text_of window.new (S.left source.new)) window.new result }
+    ensures line { OneLine line progress.old progress.new (text_of window.old (S.left source.old))
+        (text_of window.new (S.left source.new)) window.new result }
     ensures count { IfOk result (λ _. lines_of progress.old < lines_of progress.new) }
     ensures few { IfOk result (λ _. length progress.new.irqs ≤ 65537) }
     ensures sound { IfOk result (λ _. Sound progress.new) }
@@ -77,7 +78,8 @@ pub(crate) fn read_header<S: Source>(
 ) -> Result<Header, ScheduleFault>
     requires line { line.old ≡ 0 }
     requires hand { length window.old ≤ WINDOW }
-    ensures heads { Heads line.new (text_of window.old (S.left source.old)) (text_of window.new (S.left source.new)) window.new result }
+    ensures heads { HeaderAnswer line.new (text_of window.old (S.left source.old))
+        (text_of window.new (S.left source.new)) window.new result }
     ensures sound { IfOk result IsHeader }
     ensures most { line.new ≤ HEADER_LINES }
     ensures hand { length window.new ≤ WINDOW }

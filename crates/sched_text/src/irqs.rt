@@ -71,7 +71,8 @@ impl Irqs {
         }
     }
 
-    /// Why a line may not follow those that are here, if so. It looks at one mark, however many lines there are.
+    /// Why a line may not follow those that are here, if so. It looks at one mark, however many
+    /// lines there are.
     #[tactic(auto, using(crate::proofs::MarkLaws::marked_few))]
     pub(crate) fn refusal(&self, irq: IrqLine) -> Option<Reason>
         requires { irq.task < MOST_TASKS }

@@ -5,15 +5,15 @@ ghost use Rattle.sched_text.specs.Causes.{is_read, is_command_read};
 ghost use Rattle.ctr_port.specs.Counts.{HasCause};
 ghost use Rattle.ctr_port.specs.InHand.{text_of};
 ghost use Rattle.sched_text.specs.Commands.{command_at, needs_read};
-ghost use Rattle.sched_text.specs.Heads.{Heads, IsHeader};
-ghost use Rattle.sched_text.specs.Images.{Images};
+ghost use Rattle.sched_text.specs.Header.{HeaderAnswer, IsHeader};
+ghost use Rattle.sched_text.specs.Images.{ImageAnswer};
 ghost use Rattle.sched_text.specs.Rows.{IsCommand};
-ghost use Rattle.sched_text.specs.Reader.{fresh, Shows, widened, refusal, refusal_of, counted, ends_now};
+ghost use Rattle.sched_text.specs.Reader.{fresh, CommandAnswer, widened, refusal, refusal_of, counted, ends_now};
 
 use crate::commands::{is_end, next_command};
 use crate::faults::{CommandFault, ScheduleFault};
 use crate::header::read_header;
-use crate::imaging::read_image;
+use crate::images::read_image;
 use crate::limits::{HEADER_LINES, MOST_COMMANDS, WINDOW};
 use crate::lists::Image;
 use crate::schedule::{Command, Header};
@@ -22,8 +22,9 @@ use ctr_port::Source;
 use std::alloc::Global;
 use std::marker::Model;
 
-/// A reader of the schedule text: `header` once and first, `image` once for each task in order, then `command` until it
-/// answers `End`. After a refusal each call answers it again; after want of memory no call is made.
+/// A reader of the schedule text: `header` once and first, `image` once for each task in order,
+/// then `command` until it answers `End`. After a refusal each call answers it again; after want of
+/// memory no call is made.
 #[derive(Drop)]
 pub struct ScheduleReader {
     window: Window,
@@ -40,9 +41,17 @@ impl Model for ScheduleReader {
 
     ghost Value = { Reader };
 
-    ghost view = { λ r. record { refused = r.refused; line = r.line; commands = r.commands; ended = r.ended; hand = r.window } };
+    ghost view = { λ r. record {
+      refused = r.refused;
+      line = r.line;
+      commands = r.commands;
+      ended = r.ended;
+      hand = r.window;
+    } };
 
-    ghost invariant = { λ r. (length r.window ≤ WINDOW) × (r.commands ≤ MOST_COMMANDS) × (r.line ≤ HEADER_LINES + 1 + r.commands) × (r.refused ≡ None → r.ended ≡ false → r.line ≤ HEADER_LINES + r.commands) };
+    ghost invariant = { λ r. (length r.window ≤ WINDOW) × (r.commands ≤ MOST_COMMANDS)
+        × (r.line ≤ HEADER_LINES + 1 + r.commands)
+        × (r.refused ≡ None → r.ended ≡ false → r.line ≤ HEADER_LINES + r.commands) };
 }
 
 impl ScheduleReader {
@@ -59,7 +68,8 @@ impl ScheduleReader {
         }
     }
 
-    /// The number of the line last begun, from 1; 0 before the first. Image bytes belong to no line.
+    /// The number of the line last begun, from 1; 0 before the first. Image bytes belong to no
+    /// line.
     pub fn line(&self) -> u32
         ensures { result ≡ self.now.line }
     {
@@ -73,7 +83,8 @@ impl ScheduleReader {
         source: &mut S,
     ) -> Result<Header, ScheduleFault>
         requires { self.old ≡ fresh }
-        ensures heads { Heads self.new.line (text_of self.old.hand (S.left source.old)) (text_of self.new.hand (S.left source.new)) self.new.hand result }
+        ensures heads { HeaderAnswer self.new.line (text_of self.old.hand (S.left source.old))
+            (text_of self.new.hand (S.left source.new)) self.new.hand result }
         ensures sound { IfOk result IsHeader }
         ensures hand { length self.new.hand ≤ WINDOW }
         ensures cause { HasCause is_read (S.faults source.old) (S.faults source.new) result }
@@ -97,14 +108,19 @@ impl ScheduleReader {
         len: u32,
     ) -> Result<Image, ScheduleFault>
         requires { self.old.refused ≢ Some ScheduleFault.Memory }
-        ensures images { self.old.refused ≡ None → Images self.old.line len (text_of self.old.hand (S.left source.old)) (text_of self.new.hand (S.left source.new)) self.new.hand result }
+        ensures images { self.old.refused ≡ None
+            → ImageAnswer self.old.line len (text_of self.old.hand (S.left source.old))
+            (text_of self.new.hand (S.left source.new)) self.new.hand result }
         ensures size { IfOk result (λ image. length image ≡ len) }
         ensures hand { length self.new.hand ≤ WINDOW }
-        ensures cause { self.old.refused ≡ None → HasCause is_read (S.faults source.old) (S.faults source.new) result }
+        ensures cause { self.old.refused ≡ None
+            → HasCause is_read (S.faults source.old) (S.faults source.new) result }
         ensures still { len ≤ length self.old.hand → source.new ≡ source.old }
-        ensures again { (fault : ScheduleFault) → self.old.refused ≡ Some fault → (result ≡ Err fault) × (self.new ≡ self.old) × (source.new ≡ source.old) }
+        ensures again { (fault : ScheduleFault) → self.old.refused ≡ Some fault
+            → (result ≡ Err fault) × (self.new ≡ self.old) × (source.new ≡ source.old) }
         ensures refused { self.new.refused ≡ refusal_of result }
-        ensures same { (self.new.line ≡ self.old.line) × (self.new.commands ≡ self.old.commands) × (self.new.ended ≡ self.old.ended) }
+        ensures same { (self.new.line ≡ self.old.line) × (self.new.commands ≡ self.old.commands)
+            × (self.new.ended ≡ self.old.ended) }
     {
         if let Some(fault) = self.refused {
             return Err(fault);
@@ -122,17 +138,23 @@ impl ScheduleReader {
     pub fn command<S: Source>(&mut self, source: &mut S) -> Result<Command, CommandFault>
         requires memory { self.old.refused ≢ Some ScheduleFault.Memory }
         requires goes_on { self.old.refused ≡ None → self.old.ended ≡ false }
-        ensures shows { self.old.refused ≡ None → Shows (command_at (self.old.line + 1) self.old.commands) (text_of self.old.hand (S.left source.old)) (text_of self.new.hand (S.left source.new)) self.new.hand result }
+        ensures shows { self.old.refused ≡ None
+            → CommandAnswer (command_at (self.old.line + 1) self.old.commands)
+            (text_of self.old.hand (S.left source.old))
+            (text_of self.new.hand (S.left source.new)) self.new.hand result }
         ensures range { IfOk result IsCommand }
         ensures most { self.new.commands ≤ MOST_COMMANDS }
         ensures hand { length self.new.hand ≤ WINDOW }
         ensures fewer { IfOk result (λ _. length self.new.hand < WINDOW) }
-        ensures cause { self.old.refused ≡ None → HasCause is_command_read (S.faults source.old) (S.faults source.new) result }
+        ensures cause { self.old.refused ≡ None
+            → HasCause is_command_read (S.faults source.old) (S.faults source.new) result }
         ensures still { needs_read self.old.hand ≡ false → source.new ≡ source.old }
-        ensures again { (fault : CommandFault) → self.old.refused ≡ Some (widened fault) → (result ≡ Err fault) × (self.new ≡ self.old) × (source.new ≡ source.old) }
+        ensures again { (fault : CommandFault) → self.old.refused ≡ Some (widened fault)
+            → (result ≡ Err fault) × (self.new ≡ self.old) × (source.new ≡ source.old) }
         ensures refused { self.new.refused ≡ refusal result }
         ensures line { self.old.refused ≡ None → self.new.line ≡ self.old.line + 1 }
-        ensures count { self.old.refused ≡ None → self.new.commands ≡ counted self.old.commands result }
+        ensures count { self.old.refused ≡ None
+            → self.new.commands ≡ counted self.old.commands result }
         ensures ended { self.old.refused ≡ None → self.new.ended ≡ ends_now result }
     {
         if let Some(fault) = self.refused {

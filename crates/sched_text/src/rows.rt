@@ -46,7 +46,8 @@ pub(crate) fn has_form(line: &[u8], first: &[u8], count: usize) -> bool
 // The decimal number that the first word spells, and what follows the space after it.
 fn decimal(line: &[u8]) -> Result<(u128, &[u8]), Reason>
     ensures number { number_of result ≡ decimal line.now 0 }
-    ensures rest { IfOk result (λ r. 1 < length (words line.now) → words r.1.now ≡ drop 1 (words line.now)) }
+    ensures rest { IfOk result
+        (λ r. 1 < length (words line.now) → words r.1.now ≡ drop 1 (words line.now)) }
 {
     let (first, rest) = split_word(line);
     let number = number(first, 10).ok_or(Reason::NotNumber)?;
@@ -56,7 +57,8 @@ fn decimal(line: &[u8]) -> Result<(u128, &[u8]), Reason>
 // The same of a hexadecimal number.
 fn hexadecimal(line: &[u8]) -> Result<(u128, &[u8]), Reason>
     ensures number { number_of result ≡ hexadecimal line.now 0 }
-    ensures rest { IfOk result (λ r. 1 < length (words line.now) → words r.1.now ≡ drop 1 (words line.now)) }
+    ensures rest { IfOk result
+        (λ r. 1 < length (words line.now) → words r.1.now ≡ drop 1 (words line.now)) }
 {
     let (first, rest) = split_word(line);
     let number = number(first, 16).ok_or(Reason::NotNumber)?;

@@ -9,13 +9,17 @@ pub struct TaskLine {
     pub image: u32,
     /// The length of its memory in bytes: 4 to 1,048,576, and a multiple of 4.
     pub mem: u32,
-    /// The code of the depth that its records begin with, 0 to 4 (RISC-V Control Transfer Records 1.0, sctrdepth).
+    /// The code of the depth that its records begin with, 0 to 4 (RISC-V Control Transfer Records
+    /// 1.0, sctrdepth).
     pub depth: u8,
-    /// What is written to mctrctl before the first step. Bits that the register doesn't keep are still here.
+    /// What is written to mctrctl before the first step. Bits that the register doesn't keep are
+    /// still here.
     pub mctrctl: u64,
-    /// What is written to vsctrctl before the first step. Bits that the register doesn't keep are still here.
+    /// What is written to vsctrctl before the first step. Bits that the register doesn't keep are
+    /// still here.
     pub vsctrctl: u64,
-    /// A sample is taken each time that the task's step count is a multiple of it: 0, for none, to 1,000,000,000.
+    /// A sample is taken each time that the task's step count is a multiple of it: 0, for none, to
+    /// 1,000,000,000.
     pub period: u32,
 }
 
@@ -37,15 +41,18 @@ pub struct Header {
     pub harts: u8,
     /// The layout of the samples, which `perf_sample::Layout::of` accepts.
     pub layout: u64,
-    /// The branch word of the samples, which `perf_sample::Layout::with_branch` accepts; 0 in version 1.
+    /// The branch word of the samples, which `perf_sample::Layout::with_branch` accepts; 0 in
+    /// version 1.
     pub branch: u64,
     /// The task lines: 1 to 64.
     pub tasks: TaskLines,
-    /// The irq lines, at most 1,024 of each task, and those of a task in the order of their steps and causes.
+    /// The irq lines, at most 1,024 of each task, and those of a task in the order of their steps
+    /// and causes.
     pub irqs: IrqLines,
 }
 
-/// A line after the images. A hart or a task of any size is a number here: the largest is kept where it is larger.
+/// A line after the images. A hart or a task of any size is a number here: the largest is kept
+/// where it is larger.
 #[derive(Clone, Copy, Debug, PartialEq, Eq)]
 pub enum Command {
     /// `run HART TASK STEPS`: the task makes so many steps, at most 1,000,000,000, on the hart.

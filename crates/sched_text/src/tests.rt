@@ -13,6 +13,7 @@ mod cuts;
 mod edges;
 mod header_rules;
 mod limits;
+mod outcomes;
 mod pieces;
 
 // Three lines, in front of the task lines.
@@ -29,7 +30,8 @@ const IMAGE: &str = "images\nabcd";
 
 const COMMANDS: &str = "run 0 0 1\nsample 0\nend\n";
 
-// All of these: 85 bytes, whose lines end with bytes 15, 23, 34, 51, 58, 72, 81 and 85; the image ends with byte 62.
+// All of these: 85 bytes, whose lines end with bytes 15, 23, 34, 51, 58, 72, 81 and 85; the image
+// ends with byte 62.
 const SCHEDULE: &str =
     "ctr-schedule 1\nharts 1\nlayout 803\ntask 4 8 0 4 0 0\nimages\nabcdrun 0 0 1\nsample 0\nend\n";
 
@@ -125,7 +127,8 @@ fn read_all(
     })
 }
 
-// Reads a text in pieces of this length, and compares how many commands it has and why it is refused.
+// Reads a text in pieces of this length, and compares how many commands it has and why it is
+// refused.
 fn comes_in_pieces_to(
     rt: &impl Abort,
     alloc: Global,
@@ -163,7 +166,8 @@ fn comes_to(
     Ok(())
 }
 
-// Reads each text behind a front in pieces of six lengths, and compares which line is refused, and why.
+// Reads each text behind a front in pieces of six lengths, and compares which line is refused, and
+// why.
 fn refuses_each(
     rt: &impl Abort,
     alloc: Global,

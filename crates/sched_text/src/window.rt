@@ -2,7 +2,7 @@
 
 ghost use Rattle.std.specs.Prelude.{◌≡◌, ◌<◌, ◌≤◌, length, drop, []};
 ghost use Rattle.ctr_port.specs.Counts.{Rose};
-ghost use Rattle.sched_text.specs.Hand.{Fills, IsAtMost};
+ghost use Rattle.sched_text.specs.Window.{Fills, IsAtMost};
 
 use crate::limits::WINDOW;
 use arrayvec::ArrayVec;

@@ -3,7 +3,7 @@
 ghost use Rattle.std.specs.Prelude.{◌≡◌, ◌<◌, ◌≤◌, length, drop};
 ghost use Rattle.std.specs.List.{position_or_len};
 ghost use Rattle.sched_text.specs.Lines.{is_space, words, word};
-ghost use Rattle.sched_text.specs.Numbers.{face, number};
+ghost use Rattle.sched_text.specs.Numbers.{digit_value, number};
 
 /// How many words a line has.
 pub(crate) fn word_count(line: &[u8]) -> usize
@@ -45,8 +45,8 @@ pub(crate) fn split_word(line: &[u8]) -> (&[u8], &[u8])
 }
 
 // The number that a digit stands for, of either case, or 16.
-fn face(byte: u8) -> u128
-    ensures { result ≡ face byte }
+fn digit_value(byte: u8) -> u128
+    ensures { result ≡ digit_value byte }
 {
     match byte {
         b'0'..=b'9' => (byte - b'0') as u128,
@@ -56,8 +56,8 @@ fn face(byte: u8) -> u128
     }
 }
 
-/// The number that a word spells in a base up to 16, where it has one digit at least and nothing else. One that is past
-/// the end of 64 bits counts as 2^64.
+/// The number that a word spells in a base up to 16, where it has one digit at least and nothing
+/// else. One that is past the end of 64 bits counts as 2^64.
 pub(crate) fn number(word: &[u8], base: u128) -> Option<u128>
     requires low { 1 ≤ base }
     requires high { base ≤ 16 }
@@ -68,7 +68,7 @@ pub(crate) fn number(word: &[u8], base: u128) -> Option<u128>
     }
     let mut value = 0;
     for byte in word {
-        let digit = face(*byte);
+        let digit = digit_value(*byte);
         if digit >= base {
             return None;
         }

@@ -2,7 +2,7 @@ ghost use Rattle.std.specs.Prelude.{◌≡◌, Some};
 ghost use Rattle.sched_text.specs.Reader.{widened};
 
 use super::{Answers, SCHEDULE, START, TASK, joined, read_all, repeat, widen};
-use crate::{CommandFault, LineFault, Reason, ScheduleReader};
+use crate::{CommandFault, LineFault, Reason, ScheduleFault, ScheduleReader};
 use ctr_port::{Got, MemSource, Source};
 use std::alloc::Global;
 use std::process::Abort;
@@ -40,9 +40,9 @@ fn bytes_left(alloc: Global, source: &mut MemSource) -> Result<Vec<u8>, Fail> {
     Ok(left)
 }
 
-// Reads a schedule that is refused after so many reads, and asks again: the fault is the same, and no read is made. For the
-// call that comes after those reads is to fail, and it does so only when the source is asked here; and the bytes behind
-// those that were read are still there.
+// Reads a schedule that is refused after so many reads, and asks again: the fault is the same, and
+// no read is made. For the call that comes after those reads is to fail, and it does so only when
+// the source is asked here; and the bytes behind those that were read are still there.
 fn is_told_again(
     rt: &impl Abort,
     alloc: Global,
@@ -64,10 +64,12 @@ fn is_told_again(
     Ok(())
 }
 
-// What stands behind the first three lines, how many bytes of it are read up to the refusal, one at a read, and whether one
-// more read meets the end; the line that is refused, and why.
+// What stands behind the first three lines, how many bytes of it are read up to the refusal, one at
+// a read, and whether one more read meets the end; the line that is refused, and why.
 const REFUSALS: &[(&str, usize, bool, u32, Reason)] = &[
     ("image\ntask 4 8 0 4 0 0\n", 6, false, 4, Reason::NotWord),
+    ("task 4 8", 8, true, 4, Reason::Cut),
+    ("task 4 8 0 4 0 0\n", 17, true, 5, Reason::Cut),
     (
         "task 4 8 0 4 0 0\nirq 0 5 3\nirq 0 4 3\nimages\nabcdend\n",
         37,
@@ -151,7 +153,8 @@ fn a_long_line_is_told_again_without_a_read(rt: HostRuntime) -> Result<(), Fail>
     is_told_again(&rt, rt.alloc(), &mut source, fault, left)
 }
 
-// A read of one byte that fails, and the call after it, which nobody makes while the reader is asked again.
+// A read of one byte that fails, and the call after it, which nobody makes while the reader is
+// asked again.
 fn failed_read_is_told_again(rt: &impl Abort, alloc: Global, read: usize) -> Result<(), Fail> {
     let text = SCHEDULE.as_bytes();
     let call = read as u64;
@@ -165,6 +168,31 @@ fn a_failed_read_is_told_again_without_a_read(rt: HostRuntime) -> Result<(), Fai
     // 85 bytes in reads of one byte, and one more read that looks past the end.
     for read in 0..86 {
         failed_read_is_told_again(&rt, rt.alloc(), read)?;
+    }
+    Ok(())
+}
+
+// The reads of one byte, and the line that each of them belongs to: image bytes to `images`, and
+// the look behind `end` to that line.
+#[test]
+fn a_failed_read_is_answered_in_its_line(rt: HostRuntime) -> Result<(), Fail> {
+    for (first, end, line) in [
+        (0, 15, 1),
+        (15, 23, 2),
+        (23, 34, 3),
+        (34, 51, 4),
+        (51, 62, 5),
+        (62, 72, 6),
+        (72, 81, 7),
+        (81, 86, 8),
+    ] {
+        for call in first..end {
+            let mut source = MemSource::new(rt.alloc(), SCHEDULE.as_bytes(), &[1], &[call])?;
+            let mut reader = ScheduleReader::new();
+            let answers = read_all(rt.alloc(), &mut reader, &mut source)?;
+            assert_eq!(rt; answers.fault, Some(ScheduleFault::ReadFault), "at {call}");
+            assert_eq!(rt; reader.line(), line, "at {call}");
+        }
     }
     Ok(())
 }

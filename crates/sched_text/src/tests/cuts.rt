@@ -5,7 +5,8 @@ use std::alloc::Global;
 use std::process::Abort;
 use std::test::*;
 
-// A line, the place of its first byte, that of the first byte behind it, and the commands before it.
+// A line, the place of its first byte, that of the first byte behind it, and the commands before
+// it.
 const LINES: &[(u32, usize, usize, usize)] = &[
     (1, 0, 15, 0),
     (2, 15, 23, 0),
@@ -30,7 +31,8 @@ fn a_schedule_cut_anywhere_is_refused_at_its_line(rt: HostRuntime) -> Result<(),
     comes_to(&rt, rt.alloc(), "the whole", text, 2, None)
 }
 
-// Two tasks with images of so many bytes, an irq line, and so many bytes of images: they are cut in the second image.
+// Two tasks with images of so many bytes, an irq line, and so many bytes of images: they are cut in
+// the second image.
 fn cut_in_the_second_image(
     rt: &impl Abort,
     alloc: Global,

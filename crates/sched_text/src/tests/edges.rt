@@ -88,7 +88,8 @@ fn a_schedule_of_version_2_is_read_as_one_of_version_1(rt: HostRuntime) -> Resul
     Ok(())
 }
 
-// The branch stack alone, every bit that a layout may have, and each of these bits beside the branch stack.
+// The branch stack alone, every bit that a layout may have, and each of these bits beside the
+// branch stack.
 const LAYOUTS: &[(&str, u64)] = &[
     ("layout 800\n", 0x800),
     ("layout 10bcf\n", 0x1_0BCF),
@@ -218,7 +219,8 @@ fn each_cause_and_the_first_and_the_last_step_are_taken(rt: HostRuntime) -> Resu
 fn irq_lines_of_one_task_come_in_order_and_those_of_two_in_any(
     rt: HostRuntime,
 ) -> Result<(), Fail> {
-    // All ten causes at one step, a later step with a lesser cause, and an earlier step of the other task.
+    // All ten causes at one step, a later step with a lesser cause, and an earlier step of the
+    // other task.
     let header = header_of(
         rt.alloc(),
         &[

@@ -158,7 +158,8 @@ const TASKS: &[(&str, Reason)] = &[
     ("task 4 8 0 4 0 4294967296\n", Reason::Range), // 2^32
 ];
 
-// In place of an irq line, the first or a later one, where there is one task. Any of them may be the line `images`.
+// In place of an irq line, the first or a later one, where there is one task. Any of them may be
+// the line `images`.
 const IRQS: &[(&str, Reason)] = &[
     ("", Reason::Cut),
     ("irq 0 2000 3", Reason::Cut),

@@ -6,8 +6,8 @@ use std::alloc::Global;
 use std::process::Abort;
 use std::test::*;
 
-// A line of 254 bytes in its place: what stands before it, its words, the zeros behind them, its number, and how many
-// commands there are behind it.
+// A line of 254 bytes in its place: what stands before it, its words, the zeros behind them, its
+// number, and how many commands there are behind it.
 struct Place {
     front: &'static str,
     words: &'static str,

@@ -100,7 +100,8 @@ fn image_is(answers: &Answers, place: usize, bytes: &[u8]) -> bool {
     }
 }
 
-// Reads a schedule of images of these lengths in pieces of this length, and compares each answer with what was written.
+// Reads a schedule of images of these lengths in pieces of this length, and compares each answer
+// with what was written.
 fn is_read_as_written(
     rt: &impl Abort,
     alloc: Global,

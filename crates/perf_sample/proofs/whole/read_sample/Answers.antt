@@ -63,8 +63,8 @@ returns-in_err-read_hw_index-clause-takes g c =
     c.in_err-read_hw_index.field-0.0 (longer_still h.misc h.size front (le 8 nr)) last (breaks_in_index layout h.misc h.size nr s small took.1 many.1 many.2)
     (c.in_err-read_hw_index.ensures.takes h.size))
 
-pub returns-in_err-sample-clause-takes : goal.returns-in_err-sample-clause-takes
-returns-in_err-sample-clause-takes g c =
+pub returns-in_err-read_branches-clause-takes : goal.returns-in_err-read_branches-clause-takes
+returns-in_err-read_branches-clause-takes g c =
     let layout = c.args.layout in
     let h = c.in-Some.header in
     let s = c.read_rows.new.sample in
@@ -82,11 +82,11 @@ returns-in_err-sample-clause-takes g c =
     let many = c.in_ok-nr.ensures.takes in
     let last = taken_then left0 left2 left3 (up_to_nr layout h.misc h.size s) (le 8 nr) next many.0 in
     let index = taken_then left0 left3 left4 (with_nr layout h.misc h.size nr s) (index_bytes layout t) last c.in_ok-read_hw_index.ensures.takes.0 in
-    let p = err_from_is_err_and c.from_residual-in_err-sample.result c.from_residual-in_err-sample.ensures.1 in
+    let p = err_from_is_err_and c.from_residual-in_err-read_branches.result c.from_residual-in_err-read_branches.ensures.1 in
     rw (p.1, p.2)
     (broke_after layout left0 left4 (g.S.Source.left c.read_branches.new.source) (with_nr layout h.misc h.size nr s ++ index_bytes layout t) (first_of layout h.size (branch_fields 0 nr))
-    c.in_err-sample.field-0.0 (longest h.misc h.size front (le 8 nr) (index_bytes layout t)) index (breaks_in_branches layout h.misc h.size nr s t small took.1 many.1 many.2)
-    (c.in_err-sample.ensures.takes layout h.size))
+    c.in_err-read_branches.field-0.0 (longest h.misc h.size front (le 8 nr) (index_bytes layout t)) index (breaks_in_branches layout h.misc h.size nr s t small took.1 many.1 many.2)
+    (c.in_err-read_branches.ensures.takes layout h.size))
 
 pub returns-clause-takes : goal.returns-clause-takes
 returns-clause-takes g c =
@@ -95,7 +95,7 @@ returns-clause-takes g c =
     let s = c.read_rows.new.sample in
     let t = c.read_hw_index.new.sample in
     let nr = c.in_ok-nr.nr in
-    let bs = c.in_ok-sample.field-0 in
+    let bs = c.read_branches.new.branches in
     let left0 = g.S.Source.left c.args.source.now in
     let left1 = g.S.Source.left c.read_header.new.source in
     let left2 = g.S.Source.left c.read_rows.new.source in
@@ -110,7 +110,7 @@ returns-clause-takes g c =
     let last = taken_then left0 left2 left3 (up_to_nr layout h.misc h.size s) (le 8 nr) next many.0 in
     let index = c.in_ok-read_hw_index.ensures.takes in
     let more = taken_then left0 left3 left4 (with_nr layout h.misc h.size nr s) (index_bytes layout t) last index.0 in
-    let stack = c.in_ok-sample.ensures.takes in
+    let stack = c.in_ok-read_branches.ensures.takes in
     let all = taken_then left0 left4 left5 (with_nr layout h.misc h.size nr s ++ index_bytes layout t) (flat_map branch_bytes bs) more stack.0 in
     let same = λ (m : ℕ). Consumes left0 left5 ((with_nr layout m h.size nr s ++ index_bytes layout t) ++ flat_map branch_bytes bs) in (
       (with_nr layout s.misc h.size nr s ++ index_bytes layout t) ++ flat_map branch_bytes bs,

@@ -2,7 +2,7 @@ use Rattle.std.proofs.Common.{◌≡◌, ◌∙◌, ◌+◌, false, take, drop, 
 use Rattle.ctr_port.specs.InHand.{text_of}
 use Rattle.sched_text.specs.Commands.{needs_read}
 use Rattle.sched_text.specs.Rows.{command_of}
-use Rattle.sched_text.specs.Hand.{HasLine}
+use Rattle.sched_text.specs.InHand.{HasLine}
 use Rattle.sched_text.proofs.CommandLaws.{long_refused, line_passed, row_refused, row_taken, row_over, end_shows, not_open, behind_end}
 use Rattle.sched_text.proofs.commands.next_command.Goals as goal
 

@@ -1,9 +1,9 @@
 use Rattle.std.proofs.Common.{◌∙◌, ap, subst, refl, Err}
 use Rattle.ctr_port.specs.InHand.{text_of}
-use Rattle.sched_text.specs.Hand.{HasLine}
-use Rattle.sched_text.specs.Header.{step, Stepped}
+use Rattle.sched_text.specs.InHand.{HasLine}
+use Rattle.sched_text.specs.Progress.{step, Stepped}
 use Rattle.sched_text.proofs.CommandLaws.{line_passed}
-use Rattle.sched_text.proofs.HeadLaws.{long_line, line_steps, line_refused}
+use Rattle.sched_text.proofs.HeaderLaws.{long_line, line_steps, line_refused}
 use Rattle.sched_text.proofs.header.one_line.Goals as goal
 
 pub returns-in-Long-clause-line : goal.returns-in-Long-clause-line

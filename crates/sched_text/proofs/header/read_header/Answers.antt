@@ -1,8 +1,7 @@
 use Rattle.std.proofs.Common.{◌∙◌, ◌+◌, sym, subst, arith}
 use Rattle.ctr_port.specs.InHand.{text_of}
-use Rattle.sched_text.specs.Header.{Sound}
-use Rattle.sched_text.specs.Heads.{OneLine}
-use Rattle.sched_text.proofs.HeadLaws.{came_none, came_more, came_stops}
+use Rattle.sched_text.specs.Progress.{Sound, OneLine}
+use Rattle.sched_text.proofs.HeaderLaws.{came_none, came_more, came_stops, came_ends}
 use Rattle.sched_text.proofs.header.read_header.Goals as goal
 
 pub loop-line-init : goal.loop-line-init
@@ -31,3 +30,9 @@ returns-in-Err-clause-heads g c =
     let at2 = text_of c.one_line.new.window (g.S.Source.left c.one_line.new.source) in
     came_stops c.in-Err.fault at0 at1 at2 c.loop-line.line c.loop-line.progress c.one_line.new.progress c.one_line.new.window c.loop-line.invariant.0 (sym c.is_done.ensures ∙ c.loop-line-test.true)
     (subst (OneLine (c.loop-line.line + 1) c.loop-line.progress c.one_line.new.progress at1 at2 c.one_line.new.window) c.in-Err.is c.one_line.ensures.line)
+
+pub returns-clause-heads : goal.returns-clause-heads
+returns-clause-heads g c =
+    let at0 = text_of c.args.window.now (g.S.Source.left c.args.source.now) in
+    let at1 = text_of c.loop-line.window (g.S.Source.left c.loop-line.source) in
+    rw c.into_lines.ensures (came_ends at0 at1 c.loop-line.line c.loop-line.progress c.loop-line.invariant.0 (sym c.is_done.ensures ∙ c.loop-line-test.false))

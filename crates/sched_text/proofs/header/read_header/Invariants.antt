@@ -1,12 +1,13 @@
-use Rattle.std.proofs.Common.{◌≡◌, ◌≤◌, ◌-◌, length, Ok}
+use Rattle.std.proofs.Common.{◌≤◌, ◌-◌, length}
 use Rattle.ctr_port.specs.InHand.{text_of, Of}
 use Rattle.sched_text.specs.declared.limits.TheConstants.{WINDOW, HEADER_LINES}
-use Rattle.sched_text.specs.Header.{after, lines_of, Sound}
+use Rattle.sched_text.specs.Progress.{lines_of, Sound}
+use Rattle.sched_text.proofs.HeaderLaws.{Came}
 use Rattle.sched_text.proofs.header.read_header.Given as goal
 
 abbrev pub invariant-loop-line : goal.invariant-loop-line
 invariant-loop-line g l =
-    Of (text_of l.fn.window (g.S.Source.left l.fn.source)) (text_of l.window (g.S.Source.left l.source)) (λ t t'. after l.line t ≡ Ok (l.progress, t'))
+    Of (text_of l.fn.window (g.S.Source.left l.fn.source)) (text_of l.window (g.S.Source.left l.source)) (Came l.line l.progress)
     × (l.line ≤ lines_of l.progress)
     × Sound l.progress
     × (length l.progress.irqs ≤ 65537)

@@ -1,6 +1,7 @@
 use Rattle.sched_text.proofs.BreakLaws.{break_once}
 use Rattle.sched_text.proofs.WholeLaws.{whole_or_broken}
 use Rattle.sched_text.proofs.OneLaws.{one_of_each}
+use Rattle.sched_text.proofs.GrammarLaws.{grammatical}
 use Rattle.sched_text.proofs.laws.text_laws.Goals as goal
 
 pub returns-clause-one_break : goal.returns-clause-one_break
@@ -11,3 +12,6 @@ returns-clause-whole_or_broken c = whole_or_broken
 
 pub returns-clause-one_of_each : goal.returns-clause-one_of_each
 returns-clause-one_of_each c = one_of_each
+
+pub returns-clause-grammar : goal.returns-clause-grammar
+returns-clause-grammar c = grammatical
