@@ -1,0 +1,80 @@
+use Rattle.std.proofs.Common.{◌≡◌, ℕ, List, [], false, length, sym, ap, ◌∙◌, subst}
+use Rattle.rv_hart.specs.Hart.{fresh_harts}
+use Rattle.replay_engine.specs.Counts.{CountsWithin}
+use Rattle.replay_engine.specs.Engine.{IsEngine}
+use Rattle.replay_engine.specs.Stands.{StandsFor}
+use Rattle.replay_engine.specs.Start.{fresh_tasks}
+use Rattle.replay_engine.specs.Tasks.{TaskState, PlacesAgree, present_states}
+use Rattle.replay_engine.specs.View.{Plan, view_of}
+use Rattle.replay_engine.proofs.FirstLaws.{length-fresh_tasks}
+use Rattle.replay_engine.proofs.HeaderLaws.{header_irqs}
+use Rattle.replay_engine.proofs.StartLaws.{as_many, length_orders, started_whole, started_places}
+use Rattle.replay_engine.proofs.StartLaws.{started_facts, within_none, lone_firsts}
+use Rattle.replay_engine.proofs.engine.Engine.start.Goals as goal
+
+pub orders_of-requires-clause-irqs : goal.orders_of-requires-clause-irqs
+orders_of-requires-clause-irqs c =
+    let h = c.args.header in
+    header_irqs (length h.tasks) h.irqs c.requires.header.irqs c.requires.header.order
+
+pub first_tasks-requires-clause-mems : goal.first_tasks-requires-clause-mems
+first_tasks-requires-clause-mems c = as_many c.args.header.tasks c.args.mems c.requires.mems
+
+pub invariant_of-result : goal.invariant_of-result
+invariant_of-result c =
+    let h = c.args.header in
+    let plan : Plan = record {
+      harts = h.harts;
+      layout = c.layout_of-layout.result;
+      tasks =
+          c.in_ok-orders.orders.items;
+    } in
+    subst (λ (ts : List TaskState). IsEngine (record { plan = plan; tasks = ts; broken = false }))
+    (sym c.in_ok-tasks.ensures)
+    (started_facts plan h.tasks c.args.mems h.irqs c.in_ok-orders.ensures c.requires.header.harts
+    c.requires.header.few c.requires.mems)
+
+pub returns-clause-stands : goal.returns-clause-stands
+returns-clause-stands c =
+    let h = c.args.header in
+    let plan : Plan = record {
+      harts = h.harts;
+      layout = c.layout_of-layout.result;
+      tasks =
+          c.in_ok-orders.orders.items;
+    } in
+    let size : length c.in_ok-orders.orders.items ≡ length (fresh_tasks h.tasks c.args.mems) =
+    ap length c.in_ok-orders.ensures ∙ length_orders 0 h.tasks h.irqs
+    ∙ sym (length-fresh_tasks h.tasks c.args.mems
+    (sym (as_many h.tasks c.args.mems c.requires.mems))) in
+    subst (λ (ts : List TaskState). StandsFor plan (present_states ts fresh_harts)
+    [] ts fresh_harts) (sym c.in_ok-tasks.ensures)
+    (started_whole plan h.tasks c.args.mems size)
+
+pub returns-clause-places : goal.returns-clause-places
+returns-clause-places c =
+    let h = c.args.header in
+    let plan : Plan = record {
+      harts = h.harts;
+      layout = c.layout_of-layout.result;
+      tasks =
+          c.in_ok-orders.orders.items;
+    } in
+    let size : length c.in_ok-orders.orders.items ≡ length (fresh_tasks h.tasks c.args.mems) =
+    ap length c.in_ok-orders.ensures ∙ length_orders 0 h.tasks h.irqs
+    ∙ sym (length-fresh_tasks h.tasks c.args.mems
+    (sym (as_many h.tasks c.args.mems c.requires.mems))) in
+    subst (λ (ts : List TaskState). PlacesAgree ts fresh_harts) (sym c.in_ok-tasks.ensures)
+    (started_places plan h.tasks c.args.mems size)
+
+pub returns-clause-counts : goal.returns-clause-counts
+returns-clause-counts c =
+    subst (λ (ts : List TaskState). CountsWithin 0 0 0 (view_of ts fresh_harts))
+    (sym c.in_ok-tasks.ensures) (within_none c.args.header.tasks c.args.mems)
+
+pub returns-clause-lone : goal.returns-clause-lone
+returns-clause-lone c images are =
+    let h = c.args.header in
+    ap (λ (ts : List TaskState). present_states ts fresh_harts) c.in_ok-tasks.ensures
+    ∙ ap (λ (ms : List (List ℕ)). present_states (fresh_tasks h.tasks ms) fresh_harts) are
+    ∙ lone_firsts 0 h.tasks images h.irqs fresh_harts

@@ -1,0 +1,51 @@
+use Rattle.replay_engine.proofs.AtLaws.{standing_harts_are_at}
+use Rattle.replay_engine.proofs.EngineLaws.{moves_keep_states, presents_are_steps, runs_join}
+use Rattle.replay_engine.proofs.EngineLaws.{refusals_agree, states_are_lone, samples_join}
+use Rattle.replay_engine.proofs.EngineLaws.{samples_are_own, commands_add_little, counts_loosen}
+use Rattle.replay_engine.proofs.EngineLaws.{headers_give_interrupts}
+use Rattle.replay_engine.proofs.BreakLaws.{accepted_or_broken}
+use Rattle.replay_engine.proofs.VisibleLaws.{samples_are_lone}
+use Rattle.replay_engine.proofs.PlacingLaws.{places_are_told}
+use Rattle.replay_engine.proofs.laws.engine_laws.Goals as goal
+
+pub returns-clause-moves : goal.returns-clause-moves
+returns-clause-moves c = moves_keep_states
+
+pub returns-clause-steps : goal.returns-clause-steps
+returns-clause-steps c = presents_are_steps
+
+pub returns-clause-runs : goal.returns-clause-runs
+returns-clause-runs c = runs_join
+
+pub returns-clause-places : goal.returns-clause-places
+returns-clause-places c = places_are_told
+
+pub returns-clause-refusals : goal.returns-clause-refusals
+returns-clause-refusals c = refusals_agree
+
+pub returns-clause-states : goal.returns-clause-states
+returns-clause-states c = states_are_lone
+
+pub returns-clause-samples : goal.returns-clause-samples
+returns-clause-samples c = samples_join
+
+pub returns-clause-own : goal.returns-clause-own
+returns-clause-own c = samples_are_own
+
+pub returns-clause-counts : goal.returns-clause-counts
+returns-clause-counts c = commands_add_little
+
+pub returns-clause-loosen : goal.returns-clause-loosen
+returns-clause-loosen c = counts_loosen
+
+pub returns-clause-interrupts : goal.returns-clause-interrupts
+returns-clause-interrupts c = headers_give_interrupts
+
+pub returns-clause-harts : goal.returns-clause-harts
+returns-clause-harts c = standing_harts_are_at
+
+pub returns-clause-breaks : goal.returns-clause-breaks
+returns-clause-breaks c = accepted_or_broken
+
+pub returns-clause-visible : goal.returns-clause-visible
+returns-clause-visible c = samples_are_lone c.lone_run_laws.ensures.visible

@@ -1,0 +1,35 @@
+-- What an engine holds, and what every engine keeps to.
+use Rattle.std.specs.Prelude.{◌≡◌, ℕ, ◌<◌, ◌≤◌, Bool, List, length, map, slice_get, Option, Some}
+use Rattle.replay_engine.specs.declared.plan.Orders.{Orders}
+use Rattle.replay_engine.specs.Tasks.{TaskState, places}
+use Rattle.replay_engine.specs.View.{Plan}
+
+-- what a schedule says once, the tasks, and whether a sample could not be written
+pub record EngineState : Type 0 where
+  pub plan : Plan
+  pub tasks : List TaskState
+  pub broken : Bool
+
+abbrev pub memory_size : TaskState → ℕ
+memory_size x = length x.mem
+
+abbrev pub memory_asked : Orders → ℕ
+memory_asked o = o.memory
+
+-- each place is one of so many harts
+abbrev pub AreBelow : ℕ → List (Option ℕ) → Type 0
+AreBelow n ps = (t h : ℕ) → slice_get ps t ≡ Some (Some h) → h < n
+
+-- no two tasks are at one place
+abbrev pub AreApart : List (Option ℕ) → Type 0
+AreApart ps = (t u h : ℕ) → slice_get ps t ≡ Some (Some h) → slice_get ps u ≡ Some (Some h) → t ≡ u
+
+-- there is a task for each that the schedule speaks of, with a memory of its size; each is on one
+-- of the harts that the schedule asks for or on none, and no two are on the same
+pub record IsEngine (e : EngineState) : Type 0 where
+  pub harts : e.plan.harts ≤ 16
+  pub few : length e.tasks ≤ 64
+  pub size : length e.plan.tasks ≡ length e.tasks
+  pub memories : map memory_size e.tasks ≡ map memory_asked e.plan.tasks
+  pub below : AreBelow e.plan.harts (places e.tasks)
+  pub apart : AreApart (places e.tasks)

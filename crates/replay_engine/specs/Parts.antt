@@ -1,0 +1,92 @@
+-- What the parts of a command leave of one task and one hart. These tie private functions together.
+use Rattle.std.specs.Prelude.{◌≡◌, ℕ, suc, ◌+◌, ◌-◌, ◌%◌, ◌^◌, ◌<◌, cond, nat_eq, List, ◌++◌}
+use Rattle.std.specs.Prelude.{slice_get, slice_set, Some}
+use Rattle.ctr_port.specs.Appended.{GainsPart}
+use Rattle.perf_sample.specs.Spelling.{spelling}
+use Rattle.rv_hart.specs.Hart.{HartState}
+use Rattle.rv_hart.specs.Task.{Irq}
+use Rattle.replay_engine.specs.declared.sampling.Subject.{Subject}
+use Rattle.replay_engine.specs.Runs.{present_after, samples_of_steps, due_sample, spellings}
+use Rattle.replay_engine.specs.Runs.{sampling_costs, IsCut}
+use Rattle.replay_engine.specs.Samples.{sample_of, sample_cost}
+use Rattle.replay_engine.specs.Tasks.{TaskState, state_on}
+
+-- the first count after so many steps that asks for a sample; without a period, one that no count
+-- reaches
+abbrev pub next_due : ℕ → ℕ → ℕ
+next_due period steps = cond (nat_eq period 0) (2 ^ 64 - 1) (steps + (period - steps % period))
+
+-- so many steps were made on a hart: the task is as they make it, the hart counted them and the
+-- accesses of their samples, and all else is as before
+pub record StepsMade (y y' : HartState) (x x' : TaskState) (s : Subject) (irqs : List Irq) (n : ℕ)
+    : Type 0 where
+  pub seat : state_on y' x' ≡ present_after irqs n (state_on y x)
+  pub steps : y'.steps ≡ y.steps + n
+  pub accesses : y'.accesses ≡ y.accesses + sampling_costs s irqs n (state_on y x)
+  pub resident : y'.resident ≡ y.resident
+  pub count : x'.steps ≡ x.steps + n
+  pub place : x'.place ≡ x.place
+
+pub record RunMade {K : Type 0} (gained : K → List ℕ → K → Type 0) (old new : K) (y y' : HartState)
+    (x x' : TaskState) (s : Subject) (irqs : List Irq) (n : ℕ) : Type 0 where
+  pub stepped : StepsMade y y' x x' s irqs n
+  pub written : gained old (spellings s.layout (samples_of_steps s irqs n (state_on y x))) new
+
+-- some of the steps were made, and the sample after the last of them was cut short
+pub record RunCut {K : Type 0} (gained : K → List ℕ → K → Type 0) (old new : K) (y y' : HartState)
+    (x x' : TaskState) (s : Subject) (irqs : List Irq) (n : ℕ) : Type 0 where
+  pub before : ℕ
+  pub within : before < n
+  pub stepped : StepsMade y y' x x' s irqs (suc before)
+  pub last : List ℕ
+  pub written : gained old (spellings s.layout (samples_of_steps s irqs before (state_on y x))
+      ++ last) new
+  pub cut : IsCut last
+      (spellings s.layout (due_sample s (present_after irqs (suc before) (state_on y x))))
+
+-- the same among all tasks and harts
+pub record RunAmong {K : Type 0} (gained : K → List ℕ → K → Type 0) (old new : K)
+    (ts ts' : List TaskState) (hs hs' : List HartState) (s : Subject) (irqs : List Irq) (n : ℕ)
+    : Type 0 where
+  pub x : TaskState
+  pub x' : TaskState
+  pub y : HartState
+  pub y' : HartState
+  pub task : slice_get ts s.task ≡ Some x
+  pub hart : slice_get hs s.hart ≡ Some y
+  pub tasks : ts' ≡ slice_set ts s.task x'
+  pub harts : hs' ≡ slice_set hs s.hart y'
+  pub made : RunMade gained old new y y' x x' s irqs n
+
+pub record CutAmong {K : Type 0} (gained : K → List ℕ → K → Type 0) (old new : K)
+    (ts ts' : List TaskState) (hs hs' : List HartState) (s : Subject) (irqs : List Irq) (n : ℕ)
+    : Type 0 where
+  pub x : TaskState
+  pub x' : TaskState
+  pub y : HartState
+  pub y' : HartState
+  pub task : slice_get ts s.task ≡ Some x
+  pub hart : slice_get hs s.hart ≡ Some y
+  pub tasks : ts' ≡ slice_set ts s.task x'
+  pub harts : hs' ≡ slice_set hs s.hart y'
+  pub made : RunCut gained old new y y' x x' s irqs n
+
+pub record SampleAmong {K : Type 0} (gained : K → List ℕ → K → Type 0) (old new : K)
+    (ts : List TaskState) (hs hs' : List HartState) (s : Subject) : Type 0 where
+  pub x : TaskState
+  pub y : HartState
+  pub task : slice_get ts s.task ≡ Some x
+  pub hart : slice_get hs s.hart ≡ Some y
+  pub harts : hs' ≡ slice_set hs s.hart
+      (record y { accesses = y.accesses + sample_cost s.layout (state_on y x) })
+  pub written : gained old (spelling s.layout (sample_of s (state_on y x))) new
+
+pub record SampleCutAmong {K : Type 0} (gained : K → List ℕ → K → Type 0) (old new : K)
+    (ts : List TaskState) (hs hs' : List HartState) (s : Subject) : Type 0 where
+  pub x : TaskState
+  pub y : HartState
+  pub task : slice_get ts s.task ≡ Some x
+  pub hart : slice_get hs s.hart ≡ Some y
+  pub harts : hs' ≡ slice_set hs s.hart
+      (record y { accesses = y.accesses + sample_cost s.layout (state_on y x) })
+  pub written : GainsPart gained old new (spelling s.layout (sample_of s (state_on y x)))

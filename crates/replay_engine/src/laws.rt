@@ -1,0 +1,56 @@
+//! Laws of commands on tasks and harts.
+
+ghost use Rattle.std.specs.Prelude.{ℕ, List};
+ghost use Rattle.replay_engine.specs.Breaks.{AcceptedOrBroken};
+ghost use Rattle.replay_engine.specs.HartsAt.{StandingHartsAreAt};
+ghost use Rattle.replay_engine.specs.Laws.{MovesKeepStates, PresentsAreSteps, RunsJoin};
+ghost use Rattle.replay_engine.specs.Laws.{PlacesAreTold, StatesAreLone, SamplesJoin};
+ghost use Rattle.replay_engine.specs.Laws.{SamplesAreOwn, CommandsAddLittle, CountsLoosen};
+ghost use Rattle.replay_engine.specs.Laws.{RefusalsAgree, HeadersGiveInterrupts};
+ghost use Rattle.replay_engine.specs.Visible.{SamplesAreLone};
+
+use rv_hart::lone_run_laws;
+
+/// Laws of every schedule, command and present state: a proof and no work.
+pub fn engine_laws()
+    // Moves between harts and save areas leave every present state as it is.
+    ensures moves { MovesKeepStates }
+
+    // Steps of a present state are steps of its machine, and a run that is cut in two gives what
+    // the whole gives.
+    ensures steps { PresentsAreSteps }
+    ensures runs { RunsJoin }
+
+    // Where a task is after commands, and which command is refused after them.
+    ensures places { PlacesAreTold }
+    ensures refusals { RefusalsAgree }
+
+    // Where engine and harts stand for commands, each task is in its lone run, at its own count.
+    ensures states { StatesAreLone }
+
+    // And the harts are what the commands and the lone runs make of them.
+    ensures harts { StandingHartsAreAt }
+
+    // The samples of joined lists of commands are joined, and a task's are its own but for the
+    // hart's number.
+    ensures samples { SamplesJoin }
+    ensures own { SamplesAreOwn }
+
+    // How far one command moves the counts.
+    ensures counts { CommandsAddLittle }
+    ensures loosen { CountsLoosen }
+
+    // The irq lines of a header give each task interrupts, and nothing else becomes pending by
+    // them.
+    ensures interrupts { HeadersGiveInterrupts }
+
+    // A schedule is accepted, or one line of it is refused first.
+    ensures breaks { (text : List ℕ) → AcceptedOrBroken text }
+
+    // The samples of a command are those of lone runs. Where the software of a task wrote neither
+    // the pointer nor an entry since its buffer was emptied, its sample shows the transfers that
+    // its history leaves unreturned, in their order.
+    ensures visible { SamplesAreLone }
+{
+    lone_run_laws();
+}

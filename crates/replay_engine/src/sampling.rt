@@ -1,0 +1,207 @@
+//! The sample of a task on a hart, whose records are read through the registers.
+
+ghost use Rattle.std.specs.Prelude.{◌≡◌, ◌<◌, ◌≤◌, ◌+◌, ◌-◌, ◌*◌, ◌^◌, map, length, nat_eq};
+ghost use Rattle.std.specs.Prelude.{if◌then◌else◌, OnOk, OnErr};
+ghost use Rattle.ctr_csrs.specs.Depths.{entries_of};
+ghost use Rattle.ctr_port.specs.Appended.{GainsPart};
+ghost use Rattle.ctr_port.specs.Counts.{Rose};
+ghost use Rattle.perf_sample.specs.Layout.{Fits, FlagsFit};
+ghost use Rattle.perf_sample.specs.Spelling.{spelling};
+ghost use Rattle.perf_sample.specs.declared.faults.Place.TheVariants as place;
+ghost use Rattle.replay_engine.specs.Samples.{misc_of, branch_of, kept, youngest_place};
+ghost use Rattle.replay_engine.specs.Samples.{hw_index_of, hw_index_cost, sample_by};
+
+use ctr_buffer::Slot;
+use ctr_csrs::{Mode, depth_of, entries, status_of};
+use ctr_port::{Sink, WriteFault, write_whole};
+use indirect_regs::{CtrPort, PortReg};
+use perf_sample::{
+    Branch, Branches, Buffer, Layout, MISC_GUEST_KERNEL, MISC_GUEST_USER, MISC_HYPERVISOR,
+    MISC_KERNEL, MISC_USER, Place, Sample, encode,
+};
+use rv_hart::{Hart, Store};
+use task_switch::{Slots, read_stack};
+
+/// What the samples of a task on a hart have in common: the layout, the number of the task, that of
+/// the hart, and the period in steps of the task, which is 0 where no step asks for a sample.
+#[derive(Drop)]
+pub struct Subject {
+    pub layout: Layout,
+    pub task: u8,
+    pub hart: u8,
+    pub period: u32,
+}
+
+// The mode of a sample.
+fn misc(mode: Mode) -> u16
+    ensures { result ≡ misc_of mode }
+{
+    match mode {
+        Mode::M => MISC_HYPERVISOR,
+        Mode::S => MISC_KERNEL,
+        Mode::U => MISC_USER,
+        Mode::Vs => MISC_GUEST_KERNEL,
+        Mode::Vu => MISC_GUEST_USER,
+    }
+}
+
+// An entry as a branch.
+fn branch(slot: Slot) -> Branch
+    ensures value { result ≡ branch_of slot }
+    ensures flags { result.flags < 2 ^ 33 }
+{
+    Branch::of_transfer(
+        slot.source_address(),
+        slot.target_address(),
+        slot.kind,
+        slot.is_mispredicted(),
+    )
+}
+
+// Entries as branches, in the same order.
+fn branches(slots: &Slots) -> Branches
+    ensures items { result ≡ map branch_of slots.now }
+    ensures flags { FlagsFit result }
+{
+    let mut branches = Branches::new();
+    for slot in slots.items() {
+        branches.push(branch(*slot));
+    }
+    branches
+}
+
+// A field of 64 bits as the layout keeps it.
+fn keep(layout: Layout, place: Place, value: u64) -> u64
+    ensures { result ≡ kept layout place value }
+{
+    if layout.has(place) { value } else { 0 }
+}
+
+// A field of 32 bits as the layout keeps it.
+fn keep_half(layout: Layout, place: Place, value: u32) -> u32
+    ensures { result ≡ kept layout place value }
+{
+    if layout.has(place) { value } else { 0 }
+}
+
+// Where the record buffer keeps its youngest entry, by the depth and the write pointer.
+fn read_youngest_place<P: CtrPort>(port: &mut P) -> u64
+    requires { P.count port.old ≤ 2 ^ 62 }
+    ensures place { result ≡ youngest_place (P.unit port.old).stack }
+    ensures unit { P.unit port.new ≡ P.unit port.old }
+    ensures count { P.count port.new ≡ P.count port.old + 2 }
+    ensures rest { P.same_rest port.old port.new }
+{
+    let Some(depth) = depth_of(port.get(PortReg::Depth)) else {
+        unreachable!()
+    };
+    let status = status_of(port.get(PortReg::Status), depth);
+    let entries = u64::from(entries(depth));
+    (u64::from(status.wrptr) + entries - 1) % entries
+}
+
+// The same as the layout keeps it, read where the layout has it.
+fn read_hw_index(hart: &mut Hart<Store>, layout: Layout) -> u64
+    requires { hart.old.accesses ≤ 2 ^ 62 }
+    ensures place { result ≡ kept layout place.HwIndex (youngest_place hart.old.unit.stack) }
+    ensures hart { hart.new ≡ record hart.old {
+      accesses =
+          hart.old.accesses + hw_index_cost layout;
+    } }
+{
+    if layout.has(Place::HwIndex) {
+        read_youngest_place(hart)
+    } else {
+        0
+    }
+}
+
+// The field hw_index, where the youngest entry that holds a transfer, if there is one, lies at a
+// place.
+fn hw_index(layout: Layout, slots: &Slots, youngest: u64) -> u64
+    ensures { result ≡ (if nat_eq (length slots.now) 0 then kept layout place.HwIndex (2 ^ 64 - 1)
+        else youngest) }
+{
+    if slots.items().is_empty() {
+        keep(layout, Place::HwIndex, u64::MAX)
+    } else {
+        youngest
+    }
+}
+
+// The sample of a task that made so many steps, with its records read through the registers of its
+// hart.
+pub(crate) fn sample(hart: &mut Hart<Store>, subject: &Subject, steps: u64) -> Sample
+    requires { hart.old.accesses + 2 ≤ 2 ^ 62 }
+    ensures value { result ≡ sample_by subject.now hart.old.core hart.old.unit.stack steps }
+    ensures fits { Fits subject.now.layout result }
+    ensures hart { hart.new ≡ record hart.old {
+      accesses =
+          hart.old.accesses + (hw_index_cost subject.now.layout +
+          (3 + 4 * entries_of hart.old.unit.stack.depth));
+    } }
+{
+    let layout = subject.layout;
+    let youngest = read_hw_index(hart, layout);
+    let slots = read_stack(hart);
+    let number = u64::from(subject.task);
+    let process = keep_half(layout, Place::Tid, u32::from(subject.task) + 1);
+    Sample {
+        misc: misc(hart.core().mode),
+        identifier: keep(layout, Place::Identifier, number),
+        ip: keep(layout, Place::Ip, hart.core().pc),
+        pid: process,
+        tid: process,
+        time: keep(layout, Place::Time, steps),
+        addr: 0,
+        id: keep(layout, Place::Id, number),
+        stream_id: 0,
+        cpu: keep_half(layout, Place::Cpu, u32::from(subject.hart)),
+        period: keep(layout, Place::Period, u64::from(subject.period)),
+        hw_index: hw_index(layout, &slots, youngest),
+        branches: branches(&slots),
+    }
+}
+
+// Writes a sample.
+fn write<K: Sink>(layout: Layout, sample: &Sample, sink: &mut K) -> Result<(), WriteFault>
+    requires { Fits layout sample.now }
+    ensures whole { OnOk result (K.gained sink.old (spelling layout sample.now) sink.new) }
+    ensures part { OnErr result (GainsPart K.gained sink.old sink.new (spelling layout sample.now)) }
+    ensures later { K.faults sink.old ≤ K.faults sink.new }
+    ensures cause { OnErr result (Rose (K.faults sink.old) (K.faults sink.new)) }
+{
+    let mut out = Buffer::new();
+    encode(layout, sample, &mut out);
+    match write_whole(sink, out.as_slice()) {
+        Ok(()) => Ok(()),
+        Err(fault) => Err(fault),
+    }
+}
+
+// Writes the sample of a task that made so many steps.
+pub(crate) fn write_sample<K: Sink>(
+    hart: &mut Hart<Store>,
+    subject: &Subject,
+    steps: u64,
+    sink: &mut K,
+) -> Result<(), WriteFault>
+    requires { hart.old.accesses + 2 ≤ 2 ^ 62 }
+    ensures whole { OnOk result
+        (K.gained sink.old
+        (spelling subject.now.layout
+        (sample_by subject.now hart.old.core hart.old.unit.stack steps)) sink.new) }
+    ensures part { OnErr result (GainsPart K.gained sink.old sink.new
+        (spelling subject.now.layout
+        (sample_by subject.now hart.old.core hart.old.unit.stack steps))) }
+    ensures hart { hart.new ≡ record hart.old {
+      accesses =
+          hart.old.accesses + (hw_index_cost subject.now.layout +
+          (3 + 4 * entries_of hart.old.unit.stack.depth));
+    } }
+    ensures later { K.faults sink.old ≤ K.faults sink.new }
+    ensures cause { OnErr result (Rose (K.faults sink.old) (K.faults sink.new)) }
+{
+    let sample = sample(hart, subject, steps);
+    write(subject.layout, &sample, sink)
+}
