@@ -1,4 +1,5 @@
-//! The program: `ctrsim run` reads a schedule from standard input and writes samples to standard output.
+//! The program: `ctrsim run` reads a schedule from standard input and writes samples to standard output; `ctrsim show`
+//! reads samples and writes their text.
 #![tactic(auto)]
 
 use ctr_port::{StdSink, StdSource, write_whole};

@@ -4,11 +4,11 @@ use Rattle.std.specs.declared.option.Option.{Option}
 use Rattle.std.specs.Io.KnownBytes.{Consumes, IsAtEnd}
 use Rattle.rv_hart.specs.Hart.{HartState}
 use Rattle.ctrsim_cli.specs.declared.fault.Fault.{Fault}
-use Rattle.ctrsim_cli.specs.declared.fault.Fault.TheVariants.{Usage, ReadFault, WriteFault, Memory, OtherForm}
+use Rattle.ctrsim_cli.specs.declared.fault.Fault.TheVariants.{Usage, ReadFault, WriteFault, Memory, OtherForm, Sample}
 use Rattle.ctrsim_cli.specs.SmallForm.{Schedule, IsSmallForm}
-use Rattle.ctrsim_cli.specs.Ended.{Says, Heard}
+use Rattle.ctrsim_cli.specs.Ended.{Says, Heard, RunEnds}
 use Rattle.ctrsim_cli.proofs.Options.{some_is_none, held_is}
-use Rattle.ctrsim_cli.specs.Performed.{Performed, Answered, Ran}
+use Rattle.ctrsim_cli.specs.Performed.{Performed, Answered}
 
 -- bytes that were all taken are those that were left
 pub all_taken : (b text rest : List ℕ) → b ≡ text ++ rest → rest ≡ [] → b ≡ text
@@ -38,11 +38,12 @@ heard before now text s given ended says =
 
 -- the answer to a text is the answer to the source that gave it
 pub ran : {K : Type 0} (gained : K → List ℕ → K → Type 0) (old new : K) (harts : List HartState) (before now : Option (List ℕ)) (text : List ℕ) (fault : Option Fault)
-    → Consumes before now text → (length text < 1200001 → IsAtEnd now) → Answered gained old new harts text fault → Ran before now gained old new harts fault
+    → Consumes before now text → (length text < 1200001 → IsAtEnd now) → Answered gained old new harts text fault → RunEnds before now gained old new harts fault
 ran gained old new harts before now text None given ended a =
     record { text = text; schedule = a.schedule; heard = heard before now text a.schedule given ended a.says; written = a.performed.0; harts_are = a.performed.1 }
 ran gained old new harts before now text (Some Usage) given ended a = absurd a
 ran gained old new harts before now text (Some ReadFault) given ended a = absurd a
+ran gained old new harts before now text (Some (Sample at fault)) given ended a = absurd a
 ran gained old new harts before now text (Some WriteFault) given ended a =
     record { text = text; schedule = a.schedule; heard = heard before now text a.schedule given ended a.says; written = a.performed.0; harts_are = a.performed.1 }
 ran gained old new harts before now text (Some Memory) given ended a = a
@@ -57,4 +58,5 @@ answered gained old new harts text s (Some WriteFault) says done = record { sche
 answered gained old new harts text s (Some Memory) says done = done
 answered gained old new harts text s (Some Usage) says done = absurd done
 answered gained old new harts text s (Some ReadFault) says done = absurd done
+answered gained old new harts text s (Some (Sample at fault)) says done = absurd done
 answered gained old new harts text s (Some OtherForm) says done = absurd done

@@ -8,3 +8,8 @@ mod Options
 mod Runs
 mod SameForms
 mod Worked
+mod TextDigits
+mod Shows
+mod Longest
+mod ShowLaws
+mod BrokenTexts

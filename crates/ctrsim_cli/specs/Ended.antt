@@ -1,9 +1,12 @@
--- What holds when the top call has ended, by its fault: the headline, over the part that is built.
-use Rattle.std.specs.Prelude.{◌≡◌, ℕ, List, [], ◌∷◌, Option, IfSome, codes, string_bytes}
+-- What holds when the word `run` was followed, by the fault: the headline, over the part that is
+-- built.
+use Rattle.std.specs.Prelude.{◌≡◌, ℕ, List, [], Option, Some, None, IfSome}
 use Rattle.std.specs.Io.KnownBytes.{Consumes, IsAtEnd}
-use Rattle.std.specs.declared.string.String.{String}
 use Rattle.ctr_port.specs.Appended.{GainsPart}
 use Rattle.rv_hart.specs.Hart.{HartState, fresh_harts}
+use Rattle.ctrsim_cli.specs.declared.fault.Fault.{Fault}
+use Rattle.ctrsim_cli.specs.declared.fault.Fault.TheVariants.{Usage, ReadFault, WriteFault, Memory}
+use Rattle.ctrsim_cli.specs.declared.fault.Fault.TheVariants.{OtherForm, Sample}
 use Rattle.ctrsim_cli.specs.SmallForm.{Schedule, IsSmallForm}
 use Rattle.ctrsim_cli.specs.Left.{output, ran_harts}
 
@@ -44,8 +47,13 @@ pub record Refused {K : Type 0} (before : Option (List ℕ)) (gained : K → Lis
   pub no_form : IfSome before (λ text. (s : Schedule) → IsSmallForm text s → ⊥)
   pub nothing : Nothing gained old new harts
 
--- the one word that the program knows
-abbrev pub IsRun : {A : Type 0} → List (String A) → Type 0
-IsRun [] = ⊥
-IsRun (word ∷ []) = string_bytes word ≡ codes "run"
-IsRun (word ∷ (other ∷ words)) = ⊥
+-- by the fault of the call
+abbrev pub RunEnds : {K : Type 0} → Option (List ℕ) → Option (List ℕ)
+    → (K → List ℕ → K → Type 0) → K → K → List HartState → Option Fault → Type 0
+RunEnds before now gained old new harts None = Done before now gained old new harts
+RunEnds before now gained old new harts (Some WriteFault) = CutShort before now gained old new harts
+RunEnds before now gained old new harts (Some OtherForm) = Refused before gained old new harts
+RunEnds before now gained old new harts (Some Memory) = Nothing gained old new harts
+RunEnds before now gained old new harts (Some ReadFault) = Nothing gained old new harts
+RunEnds before now gained old new harts (Some Usage) = ⊥
+RunEnds before now gained old new harts (Some (Sample at fault)) = ⊥

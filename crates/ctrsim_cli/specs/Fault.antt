@@ -1,15 +1,51 @@
 -- What the answers of the top call are called: their statuses, and what is said of a fault.
 use Rattle.std.specs.Prelude.{ℕ, List, [], ◌∷◌, ◌++◌, Option, None, Some, codes}
+use Rattle.perf_sample.specs.declared.faults.Place.{Place}
+use Rattle.perf_sample.specs.declared.faults.Place.TheVariants as place
+use Rattle.perf_sample.specs.declared.faults.SampleFault.{SampleFault}
+use Rattle.perf_sample.specs.declared.faults.SampleFault.TheVariants as sample
 use Rattle.ctrsim_cli.specs.declared.fault.Fault.{Fault}
-use Rattle.ctrsim_cli.specs.declared.fault.Fault.TheVariants.{Usage, ReadFault, WriteFault, Memory, OtherForm}
+use Rattle.ctrsim_cli.specs.declared.fault.Fault.TheVariants.{Usage, ReadFault, WriteFault, Memory}
+use Rattle.ctrsim_cli.specs.declared.fault.Fault.TheVariants.{OtherForm, Sample}
+use Rattle.ctrsim_cli.specs.SampleText.{dec}
 
 abbrev pub status_of : Option Fault → ℕ
 status_of None = 0
 status_of (Some Usage) = 2
 status_of (Some ReadFault) = 3
 status_of (Some WriteFault) = 4
+status_of (Some (Sample at fault)) = 6
 status_of (Some Memory) = 7
 status_of (Some OtherForm) = 9
+
+-- the name of a field, with the number of its branch
+unfoldable pub place_text : Place → List ℕ
+place_text place.Identifier = codes "identifier"
+place_text place.Ip = codes "ip"
+place_text place.Tid = codes "tid"
+place_text place.Time = codes "time"
+place_text place.Addr = codes "addr"
+place_text place.Id = codes "id"
+place_text place.StreamId = codes "stream_id"
+place_text place.Cpu = codes "cpu"
+place_text place.Period = codes "period"
+place_text place.Nr = codes "nr"
+place_text place.HwIndex = codes "hw_index"
+place_text (place.From i) = codes "from " ++ dec i
+place_text (place.To i) = codes "to " ++ dec i
+place_text (place.Flags i) = codes "flags " ++ dec i
+
+-- why bytes are no sample
+unfoldable pub broken_text : SampleFault → List ℕ
+broken_text sample.Header = codes "header cut"
+broken_text sample.Kind = codes "not a sample"
+broken_text sample.Size = codes "wrong size"
+broken_text (sample.Short p) = codes "cut in " ++ place_text p
+broken_text sample.CpuReserved = codes "reserved cpu bytes"
+broken_text sample.Count = codes "too many branches"
+broken_text (sample.FlagReserved i) = codes "reserved flags in branch " ++ dec i
+broken_text sample.TooMany = codes "too many samples"
+broken_text sample.ReadFault = codes "cannot read"
 
 abbrev pub text_of : Fault → List ℕ
 text_of Usage = codes "usage: ctrsim run | show HEX | demo N"
@@ -17,10 +53,11 @@ text_of ReadFault = codes "cannot read"
 text_of WriteFault = codes "cannot write"
 text_of Memory = codes "no memory"
 text_of OtherForm = codes "other form"
+text_of (Sample at fault) = codes "sample at " ++ dec at ++ codes ": " ++ broken_text fault
 
 -- one line, with the program's name before it
-abbrev pub said : Fault → List ℕ
-said fault = codes "ctrsim: " ++ (text_of fault ++ 10 ∷ [])
+unfoldable pub said : Fault → List ℕ
+said fault = codes "ctrsim: " ++ text_of fault ++ 10 ∷ []
 
 -- nothing is said where there is no fault
 abbrev pub said_if : Option Fault → List ℕ

@@ -1,14 +1,16 @@
 -- What the parts of the top call leave, by the fault that they answer.
 use Rattle.std.specs.Prelude.{◌≡◌, ℕ, ◌≤◌, ◌⊎◌, List, length, take, Option, None, Some}
-use Rattle.std.specs.declared.string.String.{String}
 use Rattle.ctr_port.specs.Counts.{Rose}
 use Rattle.ctr_port.specs.Appended.{GainsPart}
+use Rattle.perf_sample.specs.declared.faults.SampleFault.{SampleFault}
+use Rattle.perf_sample.specs.declared.faults.SampleFault.TheVariants as sample
 use Rattle.rv_hart.specs.Hart.{HartState}
 use Rattle.ctrsim_cli.specs.declared.fault.Fault.{Fault}
-use Rattle.ctrsim_cli.specs.declared.fault.Fault.TheVariants.{Usage, ReadFault, WriteFault, Memory, OtherForm}
+use Rattle.ctrsim_cli.specs.declared.fault.Fault.TheVariants.{Usage, ReadFault, WriteFault, Memory}
+use Rattle.ctrsim_cli.specs.declared.fault.Fault.TheVariants.{OtherForm, Sample}
 use Rattle.ctrsim_cli.specs.SmallForm.{Schedule, IsSmallForm}
 use Rattle.ctrsim_cli.specs.Left.{output, ran_harts}
-use Rattle.ctrsim_cli.specs.Ended.{Says, Done, CutShort, Nothing, Refused, IsRun}
+use Rattle.ctrsim_cli.specs.Ended.{Says, Nothing}
 
 -- a schedule was run
 abbrev pub Performed : {K : Type 0} → (K → List ℕ → K → Type 0) → K → K → List HartState → Schedule → Option Fault → Type 0
@@ -18,6 +20,7 @@ Performed gained old new harts s (Some Memory) = Nothing gained old new harts
 Performed gained old new harts s (Some Usage) = ⊥
 Performed gained old new harts s (Some ReadFault) = ⊥
 Performed gained old new harts s (Some OtherForm) = ⊥
+Performed gained old new harts s (Some (Sample at fault)) = ⊥
 
 -- a schedule was found in the text and run
 pub record Found {K : Type 0} (gained : K → List ℕ → K → Type 0) (old new : K) (harts : List HartState) (text : List ℕ) (fault : Option Fault) : Type 0 where
@@ -33,21 +36,7 @@ Answered gained old new harts text (Some Memory) = Nothing gained old new harts
 Answered gained old new harts text (Some OtherForm) = ((s : Schedule) → IsSmallForm text s → ⊥) × Nothing gained old new harts
 Answered gained old new harts text (Some Usage) = ⊥
 Answered gained old new harts text (Some ReadFault) = ⊥
-
--- the word `run` was followed
-abbrev pub Ran : {K : Type 0} → Option (List ℕ) → Option (List ℕ) → (K → List ℕ → K → Type 0) → K → K → List HartState → Option Fault → Type 0
-Ran before now gained old new harts None = Done before now gained old new harts
-Ran before now gained old new harts (Some WriteFault) = CutShort before now gained old new harts
-Ran before now gained old new harts (Some OtherForm) = Refused before gained old new harts
-Ran before now gained old new harts (Some Memory) = Nothing gained old new harts
-Ran before now gained old new harts (Some ReadFault) = Nothing gained old new harts
-Ran before now gained old new harts (Some Usage) = ⊥
-
--- the words were `run` and were followed, or they were others and nothing was touched
-abbrev pub Ends : {A S K : Type 0} → List (String A) → (S → Option (List ℕ)) → S → S → (K → List ℕ → K → Type 0) → K → K → List HartState → List HartState → Option Fault → Type 0
-Ends words left source source' gained sink sink' harts harts' fault =
-    (IsRun words × Ran (left source) (left source') gained sink sink' harts' fault)
-    ⊎ ((IsRun words → ⊥) × (fault ≡ Some Usage) × (source' ≡ source) × (sink' ≡ sink) × (harts' ≡ harts))
+Answered gained old new harts text (Some (Sample at fault)) = ⊥
 
 -- a count rose where this is the fault
 abbrev pub ReadCause : ℕ → ℕ → Option Fault → Type 0
@@ -64,3 +53,15 @@ pub record SaidPart {N : Type 0} (gained : N → List ℕ → N → Type 0) (old
   pub within : count ≤ length text
   pub appended : gained old (take count text) new
   pub whole : Rose before now ⊎ (count ≡ length text)
+
+-- the fault of the call that a broken sample is
+abbrev pub fault_of : SampleFault → ℕ → Fault
+fault_of sample.ReadFault offset = ReadFault
+fault_of sample.Header offset = Sample offset sample.Header
+fault_of sample.Kind offset = Sample offset sample.Kind
+fault_of sample.Size offset = Sample offset sample.Size
+fault_of (sample.Short p) offset = Sample offset (sample.Short p)
+fault_of sample.CpuReserved offset = Sample offset sample.CpuReserved
+fault_of sample.Count offset = Sample offset sample.Count
+fault_of (sample.FlagReserved i) offset = Sample offset (sample.FlagReserved i)
+fault_of sample.TooMany offset = Sample offset sample.TooMany

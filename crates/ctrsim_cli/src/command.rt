@@ -1,17 +1,23 @@
-// The top call.
-ghost use Rattle.std.specs.Prelude.{◌≡◌, ◌≤◌, length};
+//! What the words of a call ask for, done.
+
+ghost use Rattle.std.specs.Prelude.{◌≡◌, ◌↔◌, ◌≤◌, ℕ, List, Some, length};
+ghost use Rattle.perf_sample.specs.Layout.{LayoutWords};
 ghost use Rattle.rv_hart.specs.Hart.{fresh_harts};
 ghost use Rattle.ctrsim_cli.specs.Form.{schedule_of};
-ghost use Rattle.ctrsim_cli.specs.Performed.{Performed, Answered, Ran, Ends, ReadCause, WriteCause};
-ghost use Rattle.ctrsim_cli.specs.Ended.{IsRun};
-ghost use Rattle.std.specs.Bool.{OnTrue, OnFalse};
+ghost use Rattle.ctrsim_cli.specs.Ended.{RunEnds};
+ghost use Rattle.ctrsim_cli.specs.Performed.{Performed, Answered, ReadCause, WriteCause, fault_of};
+ghost use Rattle.ctrsim_cli.specs.ShowEnds.{ShowEnds, ShowsBytes};
+ghost use Rattle.ctrsim_cli.specs.Words.{IsRun, IsShow, IsKnown};
 
 use crate::fault::Fault;
 use crate::input::{ROOM, read_all, room};
 use crate::running::run_on;
 use crate::sampling::write_sample;
+use crate::showing::{ShowFault, show};
 use crate::small_form::{Form, small_form};
+use crate::words::{Word, word_of};
 use ctr_port::{Sink, Source};
+use perf_sample::{Layout, SampleFault};
 use rv_hart::{Harts, TaskMem};
 use std::alloc::Global;
 
@@ -61,7 +67,7 @@ fn run_in<S: Source, K: Sink>(
 ) -> Option<Fault>
     requires room { length buf.old ≡ 1200001 }
     requires fresh { harts.old ≡ fresh_harts }
-    ensures ran { Ran (S.left source.old) (S.left source.new) K.gained sink.old sink.new harts.new result }
+    ensures ran { RunEnds (S.left source.old) (S.left source.new) K.gained sink.old sink.new harts.new result }
     ensures read { ReadCause (S.faults source.old) (S.faults source.new) result }
     ensures write { WriteCause (K.faults sink.old) (K.faults sink.new) result }
 {
@@ -79,7 +85,7 @@ fn run<S: Source, K: Sink>(
     harts: &mut Harts,
 ) -> Option<Fault>
     requires { harts.old ≡ fresh_harts }
-    ensures ran { Ran (S.left source.old) (S.left source.new) K.gained sink.old sink.new harts.new result }
+    ensures ran { RunEnds (S.left source.old) (S.left source.new) K.gained sink.old sink.new harts.new result }
     ensures read { ReadCause (S.faults source.old) (S.faults source.new) result }
     ensures write { WriteCause (K.faults sink.old) (K.faults sink.new) result }
 {
@@ -89,13 +95,31 @@ fn run<S: Source, K: Sink>(
     }
 }
 
-fn is_run(words: &[String]) -> bool
-    ensures yes { OnTrue result (IsRun words.now) }
-    ensures no { OnFalse result (IsRun words.now → ⊥) }
+// Which fault of the call a broken sample is.
+fn broken(fault: SampleFault, offset: u64) -> Fault
+    ensures { result ≡ fault_of fault offset }
 {
-    match words {
-        [word] => word.as_str() == "run",
-        _ => false,
+    match fault {
+        SampleFault::ReadFault => Fault::ReadFault,
+        fault => Fault::Sample(offset, fault),
+    }
+}
+
+// Shows samples until the input ends or breaks.
+fn show_all<S: Source, K: Sink>(layout: Layout, source: &mut S, sink: &mut K) -> Option<Fault>
+    ensures ends { ShowEnds K.gained layout (S.left source.old) (S.left source.new)
+        sink.old sink.new result }
+    ensures bytes { (bytes : List ℕ) → S.left source.old ≡ Some bytes →
+        ShowsBytes K.gained layout bytes (S.left source.new) sink.old sink.new result }
+    ensures read { ReadCause (S.faults source.old) (S.faults source.new) result }
+    ensures write { WriteCause (K.faults sink.old) (K.faults sink.new) result }
+{
+    match show(layout, source, sink) {
+        Ok(()) => None,
+        Err(stop) => match stop {
+            ShowFault::Sample(fault, offset) => Some(broken(fault, offset)),
+            ShowFault::Write => Some(Fault::WriteFault),
+        },
     }
 }
 
@@ -108,13 +132,25 @@ pub fn command<S: Source, K: Sink>(
     harts: &mut Harts,
 ) -> Option<Fault>
     requires { harts.old ≡ fresh_harts }
-    ensures ends { Ends words.now S.left source.old source.new K.gained sink.old sink.new harts.old harts.new result }
+    ensures run { IsRun words.now → RunEnds (S.left source.old) (S.left source.new)
+        K.gained sink.old sink.new harts.new result }
+    ensures show { (layout : LayoutWords) → IsShow words.now layout →
+        ShowEnds K.gained layout (S.left source.old) (S.left source.new) sink.old sink.new result }
+    ensures bytes { (layout : LayoutWords) (bytes : List ℕ) → IsShow words.now layout →
+        S.left source.old ≡ Some bytes →
+        ShowsBytes K.gained layout bytes (S.left source.new) sink.old sink.new result }
+    ensures harts { (IsRun words.now → ⊥) → harts.new ≡ harts.old }
+    ensures usage { (result ≡ Some Fault.Usage) ↔ (IsKnown words.now → ⊥) }
+    ensures untouched { (IsKnown words.now → ⊥) →
+        (source.new ≡ source.old) × (sink.new ≡ sink.old) }
     ensures read { ReadCause (S.faults source.old) (S.faults source.new) result }
     ensures write { WriteCause (K.faults sink.old) (K.faults sink.new) result }
 {
-    if is_run(words) {
-        run(alloc, source, sink, harts)
-    } else {
-        Some(Fault::Usage)
+    match word_of(words) {
+        None => Some(Fault::Usage),
+        Some(word) => match word {
+            Word::Run => run(alloc, source, sink, harts),
+            Word::Show(layout) => show_all(layout, source, sink),
+        },
     }
 }

@@ -1,6 +1,7 @@
 //! The top call: what the program does with its words, its input and its output.
 #![tactic(auto)]
 
+mod bytes;
 mod command;
 mod cutting;
 mod fault;
@@ -9,10 +10,13 @@ mod irqs;
 mod laws;
 mod notes;
 mod running;
+mod sample_text;
 mod sampling;
+mod showing;
 mod small_form;
 mod task_line;
 mod top;
+mod words;
 
 pub use fault::{Fault, Outcome};
 pub use laws::worked_runs;

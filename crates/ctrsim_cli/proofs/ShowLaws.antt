@@ -1,0 +1,156 @@
+-- What the end of `show` says of its words and its bytes.
+use Rattle.std.proofs.Common.{◌≡◌, ℕ, ◌+◌, ◌≤◌, List, [], ◌∷◌, ◌++◌, length}
+use Rattle.std.proofs.Common.{Option, Some, None, arith, refl, sym, ap, ◌∙◌, subst}
+use Rattle.std.proofs.Common.{length-append, false}
+use Rattle.std.proofs.lemmas.List.Elements.{All-head, All-tail}
+use Rattle.std.specs.declared.string.String.{String}
+use Rattle.ctr_port.specs.Counts.{Rose}
+use Rattle.ctr_port.specs.InHand.{Of}
+use Rattle.perf_sample.specs.Breaks.{Breaks}
+use Rattle.perf_sample.specs.Layout.{LayoutWords}
+use Rattle.perf_sample.specs.Reader.{most, Refuses}
+use Rattle.perf_sample.specs.Reading.{Cause, OfRead, OfCount, OfBytes, cause_of, is_read}
+use Rattle.perf_sample.specs.Spelling.{spelling}
+use Rattle.perf_sample.specs.declared.faults.SampleFault.{SampleFault}
+use Rattle.perf_sample.specs.declared.faults.SampleFault.TheVariants as sample
+use Rattle.perf_sample.specs.declared.sample.Sample.{Sample}
+use Rattle.perf_sample.proofs.ExactLaws.{clash, spelled_some}
+use Rattle.ctrsim_cli.specs.declared.fault.Fault.{Fault}
+use Rattle.ctrsim_cli.specs.declared.fault.Fault.TheVariants.{Usage, ReadFault, WriteFault, Memory}
+use Rattle.ctrsim_cli.specs.declared.fault.Fault.TheVariants.{OtherForm, Sample as BadSample}
+use Rattle.ctrsim_cli.specs.Fault.{status_of}
+use Rattle.ctrsim_cli.specs.Performed.{ReadCause, WriteCause}
+use Rattle.ctrsim_cli.specs.ShowEnds.{ShowEnds}
+use Rattle.ctrsim_cli.specs.Showing.{joined, AreSpelled, Refused}
+use Rattle.ctrsim_cli.specs.Words.{IsRun, IsShow}
+use Rattle.perf_sample.proofs.OneSpelling.{one_spelling}
+use Rattle.ctrsim_cli.proofs.Longest.{joined_cons, joined_empty, cons_front, taken_told}
+use Rattle.ctrsim_cli.proofs.Shows.{One, joined_none}
+
+-- words that ask to run don't ask to show, and what they ask to show is one layout
+pub run_or_show : {A : Type 0} (words : List (String A)) (layout : LayoutWords) → IsRun words
+    → IsShow words layout → ⊥
+run_or_show [] layout run show = run
+run_or_show (word ∷ []) layout run show = show
+run_or_show (word ∷ (other ∷ words)) layout run show = run
+
+layout_is : (t t' b b' : ℕ) → t ≡ t' → b ≡ b'
+    → ◌≡◌ {A = LayoutWords} (record { sample_type = t; branch = b }) (record { sample_type = t'; branch = b' })
+layout_is t t' b b' et eb =
+    ap (λ (x : ℕ). record { sample_type = x; branch = b }) et
+    ∙ ap (λ (x : ℕ). record { sample_type = t'; branch = x }) eb
+
+pub one_layout : {A : Type 0} (words : List (String A)) (a b : LayoutWords) → IsShow words a
+    → IsShow words b → a ≡ b
+one_layout [] a b p q = absurd p
+one_layout (word ∷ []) a b p q = absurd p
+one_layout (word ∷ (hex ∷ [])) a b p q =
+    layout_is a.sample_type b.sample_type a.branch b.branch
+    (p.1.0.value ∙ sym q.1.0.value) (p.2 ∙ sym q.2)
+one_layout (word ∷ (hex ∷ (branch ∷ []))) a b p q =
+    layout_is a.sample_type b.sample_type a.branch b.branch
+    (p.1.0.value ∙ sym q.1.0.value) (p.2.0.value ∙ sym q.2.0.value)
+one_layout (word ∷ (hex ∷ (branch ∷ (more ∷ words)))) a b p q = absurd p
+
+-- what is left of a join of spellings behind some of them is the join of the others
+left_over : (layout : LayoutWords) (xs ys : List Sample) (rest : List ℕ) → AreSpelled layout xs
+    → AreSpelled layout ys → joined layout xs ++ rest ≡ joined layout ys
+    → (ms : List Sample) × AreSpelled layout ms × (rest ≡ joined layout ms)
+    × (length ys ≡ length xs + length ms)
+left_over layout [] ys rest ps qs e = (ys, qs, sym (joined_empty layout rest) ∙ e, omega arith)
+left_over layout (x ∷ xs) [] rest ps qs e =
+    let one = All-head (One layout) x xs ps in
+    let none : [] ≡ spelling layout x ++ (joined layout xs ++ rest) =
+    sym (joined_none layout) ∙ sym e ∙ cons_front layout x xs rest in
+    absurd (omega (
+      arith,
+      spelled_some layout x (spelling layout x) one.1,
+      ap (λ (t : List ℕ). length t) none,
+      length-append (spelling layout x) (joined layout xs ++ rest),
+    ))
+left_over layout (x ∷ xs) (y ∷ ys) rest ps qs e =
+    let one = All-head (One layout) x xs ps in
+    let other = All-head (One layout) y ys qs in
+    let same = one_spelling layout x y (spelling layout x) (spelling layout y)
+    (joined layout xs ++ rest) (joined layout ys) one.0 other.0 one.1 other.1
+    (sym (cons_front layout x xs rest) ∙ e ∙ joined_cons layout y ys) in
+    let more = left_over layout xs ys rest (All-tail (One layout) x xs ps)
+    (All-tail (One layout) y ys qs) same.2 in
+    (more.0, more.1, more.2, omega (arith, more.3))
+
+-- so there is no break there
+no_break : (layout : LayoutWords) (ms : List Sample) (rest u : List ℕ) (f : SampleFault)
+    → AreSpelled layout ms → rest ≡ joined layout ms → Breaks layout rest f u → ⊥
+no_break layout [] rest u f spelled is breaks = breaks.some (is ∙ joined_none layout)
+no_break layout (m ∷ ms) rest u f spelled is breaks =
+    clash layout m (spelling layout m) (joined layout ms) u f
+    (All-head (One layout) m ms spelled).1
+    (subst (λ (t : List ℕ). Breaks layout t f u) (is ∙ joined_cons layout m ms) breaks)
+
+broken_of : (layout : LayoutWords) (ms : List Sample) (rest : List ℕ) (left' : Option (List ℕ))
+    (f : SampleFault) → AreSpelled layout ms → rest ≡ joined layout ms
+    → Of (Some rest) left' (λ t t'. Breaks layout t f t') → ⊥
+broken_of layout ms rest None f spelled is p = p
+broken_of layout ms rest (Some u) f spelled is p = no_break layout ms rest u f spelled is p
+
+-- and with as many samples as there may be, none is left over
+counted_of : (layout : LayoutWords) (ms : List Sample) (rest : List ℕ) (left' : Option (List ℕ))
+    → rest ≡ joined layout ms → length ms ≡ 0
+    → Of (Some rest) left' (λ t t'. (b : ℕ) × (t ≡ b ∷ t')) → ⊥
+counted_of layout [] rest None is none p = p
+counted_of layout [] rest (Some u) is none p =
+    absurd (omega (arith, ap (λ (t : List ℕ). length t) (sym p.1 ∙ is ∙ joined_none layout)))
+counted_of layout (m ∷ ms) rest left' is none p = absurd (omega (arith, none))
+
+not_refused : {K : Type 0} (gained : K → List ℕ → K → Type 0) (layout : LayoutWords)
+    (left' : Option (List ℕ)) (old new : K) (f : SampleFault) (at : ℕ) (ys : List Sample) (why : Cause)
+    (so : Refused gained layout (Some (joined layout ys)) left' old new f at)
+    → Refuses why layout (length so.samples) so.middle left' f → (why ≡ OfRead → ⊥)
+    → AreSpelled layout ys → length ys ≤ most → ⊥
+not_refused gained layout left' old new f at ys OfRead so refuses other spelled few = other refl
+not_refused gained layout left' old new f at ys OfBytes so refuses other spelled few =
+    let told = taken_told (joined layout ys) so.middle (joined layout so.samples) so.went.taken in
+    let more = left_over layout so.samples ys told.0 so.went.spelled spelled (sym told.2) in
+    broken_of layout more.0 told.0 left' f more.1 more.2
+    (subst (λ m. Of m left' (λ t t'. Breaks layout t f t')) told.1 refuses.1)
+not_refused gained layout left' old new f at ys OfCount so refuses other spelled few =
+    let told = taken_told (joined layout ys) so.middle (joined layout so.samples) so.went.taken in
+    let more = left_over layout so.samples ys told.0 so.went.spelled spelled (sym told.2) in
+    counted_of layout more.0 told.0 left' more.2 (omega (arith, more.3, few, refuses.0))
+    (subst (λ m. Of m left' (λ t t'. (b : ℕ) × (t ≡ b ∷ t'))) told.1 refuses.1)
+
+not_read : (f : SampleFault) → is_read f ≡ false → cause_of f ≡ OfRead → ⊥
+not_read sample.Header other e = absurd (cc e)
+not_read sample.Kind other e = absurd (cc e)
+not_read sample.Size other e = absurd (cc e)
+not_read (sample.Short p) other e = absurd (cc e)
+not_read sample.CpuReserved other e = absurd (cc e)
+not_read sample.Count other e = absurd (cc e)
+not_read (sample.FlagReserved i) other e = absurd (cc e)
+not_read sample.TooMany other e = absurd (cc e)
+not_read sample.ReadFault other e = absurd (cc other)
+
+-- a join of so many spellings at most is shown whole
+pub ends_shown : {K : Type 0} (gained : K → List ℕ → K → Type 0) (layout : LayoutWords)
+    (left left' : Option (List ℕ)) (old new : K) (reads reads' writes writes' : ℕ)
+    (fault : Option Fault) (ys : List Sample) → left ≡ Some (joined layout ys) → AreSpelled layout ys
+    → length ys ≤ most → ShowEnds gained layout left left' old new fault
+    → ReadCause reads reads' fault → WriteCause writes writes' fault → (Rose reads reads' → ⊥)
+    → (Rose writes writes' → ⊥) → status_of fault ≡ 0
+ends_shown gained layout left left' old new r r' w w' None ys is spelled few so read write kept sent =
+    refl
+ends_shown gained layout left left' old new r r' w w' (Some Usage) ys is spelled few so read write
+    kept sent = absurd so
+ends_shown gained layout left left' old new r r' w w' (Some ReadFault) ys is spelled few so read write
+    kept sent = absurd (kept read)
+ends_shown gained layout left left' old new r r' w w' (Some WriteFault) ys is spelled few so read
+    write kept sent = absurd (sent write)
+ends_shown gained layout left left' old new r r' w w' (Some Memory) ys is spelled few so read write
+    kept sent = absurd so
+ends_shown gained layout left left' old new r r' w w' (Some OtherForm) ys is spelled few so read write
+    kept sent = absurd so
+ends_shown gained layout left left' old new r r' w w' (Some (BadSample at f)) ys is spelled few so
+    read write kept sent =
+    let told = subst (λ (l : Option (List ℕ)). Refused gained layout l left' old new f at) is so.1 in
+    absurd (not_refused gained layout left' old new f at ys (cause_of f) told told.refuses
+    (not_read f so.0) spelled few)
