@@ -14,7 +14,7 @@ const OTHER_WORDS: [&[&str]; 6] = [
     &[],
     &["run", "x"],
     &["Run"],
-    &["show", "803"],
+    &["show"],
     &["demo", "1"],
     &["--help"],
 ];

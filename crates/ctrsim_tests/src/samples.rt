@@ -25,6 +25,9 @@ const ONE_CALL: [u8; 56] = [
     0, 0, 0x40, 0, 0, 0, 0, 0, // flags: a call
 ];
 
+// jal x0, 4; csrrwi x0, sctrdepth, 1; jal x0, 4; csrrwi x0, sctrdepth, 7
+const DEPTHS: &[u8] = b"\x6F\x00\x40\x00\x73\xD0\xF0\x15\x6F\x00\x40\x00\x73\xD0\xF3\x15";
+
 // A schedule with the sample that it gives, and what hart 0 holds after it.
 #[derive(Clone, Copy)]
 struct Case {
@@ -42,7 +45,7 @@ struct Case {
     accesses: u64,
 }
 
-const SAMPLED: [Case; 35] = [
+const SAMPLED: [Case; 39] = [
     // jal x1, 8
     Case {
         name: "no step",
@@ -509,6 +512,57 @@ const SAMPLED: [Case; 35] = [
         status: 0x0,
         accesses: 70,
     },
+    // jal x0, 4; csrrwi x0, sctrstatus, 0; jal x0, 4
+    Case {
+        name: "a task that moves the pointer back: its record is the oldest now",
+        task: b"12 0 4 0 0",
+        irqs: b"",
+        image: b"\x6F\x00\x40\x00\x73\x50\xF0\x14\x6F\x00\x40\x00",
+        steps: b"2",
+        misc: 3,
+        ip: 0x8000_0008,
+        branches: &[(0x8000_0000, 0x8000_0004, 0x20_0000)],
+        status: 0x0,
+        accesses: 70,
+    },
+    // the same
+    Case {
+        name: "and is lost by the next one",
+        task: b"12 0 4 0 0",
+        irqs: b"",
+        image: b"\x6F\x00\x40\x00\x73\x50\xF0\x14\x6F\x00\x40\x00",
+        steps: b"3",
+        misc: 3,
+        ip: 0x8000_000C,
+        branches: &[(0x8000_0008, 0x8000_000C, 0x20_0000)],
+        status: 0x1,
+        accesses: 70,
+    },
+    // jal x0, 4; lui x5, 0x80000; csrrw x0, sctrstatus, x5; jal x0, 4
+    Case {
+        name: "a task that sets FROZEN, and moves the pointer with it",
+        task: b"16 0 4 0 0",
+        irqs: b"",
+        image: b"\x6F\x00\x40\x00\xB7\x02\x00\x80\x73\x90\xF2\x14\x6F\x00\x40\x00",
+        steps: b"4",
+        misc: 3,
+        ip: 0x8000_0010,
+        branches: &[(0x8000_0000, 0x8000_0004, 0x20_0000)],
+        status: 0x8000_0000,
+        accesses: 70,
+    },
+    Case {
+        name: "a task that writes another depth and a reserved one",
+        task: b"16 0 4 0 0",
+        irqs: b"",
+        image: DEPTHS,
+        steps: b"4",
+        misc: 3,
+        ip: 0x8000_0010,
+        branches: &[(0x8000_0008, 0x8000_000C, 0x20_0000)],
+        status: 0x1,
+        accesses: 134,
+    },
 ];
 
 // A sample with this misc, this ip and these branches, youngest first: from, to, flags.
@@ -577,6 +631,17 @@ fn schedules_give_the_sample_of_their_last_step(rt: HostRuntime) -> Result<(), N
     for case in &SAMPLED {
         check(&rt, rt.alloc(), case)?;
     }
+    Ok(())
+}
+
+// RISC-V Control Transfer Records 1.0, register sctrdepth: 1 names 32 entries, and 7 is reserved.
+#[test]
+fn a_reserved_depth_leaves_the_depth_that_the_task_wrote(rt: HostRuntime) -> Result<(), NoMemory> {
+    let text = schedule(rt.alloc(), b"16 0 4 0 0", b"", DEPTHS, b"4")?;
+    let mut ended = run(rt.alloc(), &["run"], text.as_slice(), &[])?;
+    let hart = ended.harts.hart_mut(0);
+    assert!(rt; hart.accesses() < 4096);
+    assert_eq!(rt; hart.get(PortReg::Depth), 1);
     Ok(())
 }
 
