@@ -1,4 +1,5 @@
--- How reading a whole schedule ends.
+-- How reading a whole schedule ends. The crates above cite the lemmas that are `pub`, to say of their
+-- own calls how a schedule ends.
 use Rattle.std.proofs.Common.{◌≡◌, ◌⊎◌, inl, inr, ℕ, zero, suc, ◌+◌, ◌<◌, ◌≤◌, List, [], ◌∷◌, ◌++◌, length, take, drop, true, false, Option, None, Some, Result, Ok, Err, refl, sym, ap, ◌∙◌, subst, arith, add-one, append_assoc, length-append, take-append-drop, length-take, length-take-le}
 use Rattle.std.proofs.Math.Seq.{drop-append_seam}
 use Rattle.std.proofs.lemmas.Bool.{or_right}
@@ -23,15 +24,16 @@ use Rattle.sched_text.specs.Outcomes.{IsWholeOrCut, TextOutcome, total, IsBehind
 use Rattle.sched_text.proofs.FrontLaws.{line_lone, after_front, commands_front, end_more, nothing_behind}
 
 -- from a text with nothing in hand to the bytes of the source
-bare : (hand : List ℕ) (left left' : Option (List ℕ)) (P Q : List ℕ → List ℕ → Type 0) → Of (text_of [] left) (text_of hand left') P → ((b b' : List ℕ) → P b (hand ++ b') → Q b b') → Of left left' Q
+pub bare : (hand : List ℕ) (left left' : Option (List ℕ)) (P Q : List ℕ → List ℕ → Type 0) → Of (text_of [] left) (text_of hand left') P → ((b b' : List ℕ) → P b (hand ++ b') → Q b b') → Of left left' Q
 bare hand None left' P Q h f = tt
 bare hand (Some b) None P Q h f = absurd h
 bare hand (Some b) (Some b') P Q h f = f b b' h
 
-abbrev TakenSo : List ℕ → List ℕ → Type 0
+-- the bytes taken are whole, or cut at their end
+abbrev pub TakenSo : List ℕ → List ℕ → Type 0
 TakenSo b b' = (t : List ℕ) × (b ≡ t ++ b') × IsWholeOrCut t
 
--- the header
+-- a read failed within the header
 head_cut : (line : ℕ) (hand b b' : List ℕ) → line_at hand ≡ Open → IsCutOff line b (hand ++ b') → TakenSo b b'
 head_cut line hand b b' open_ (n, p, is, begun) =
     let f = after_front n b (hand ++ b') p begun.reads in
@@ -41,12 +43,13 @@ head_cut line hand b b' open_ (n, p, is, begun) =
       inr (fault, refl, inl (record { before = n; lines = p; rest = hand; begun = record { reads = f.2 hand; goes_on = begun.goes_on }; refused = ap (header_cut (n + 1) p) open_ })),
     )
 
+-- the header's fault is that of the text
 pub head_stops : (f : ScheduleFault) (line : ℕ) (hand : List ℕ) (left left' : Option (List ℕ)) → HeaderAnswer line (text_of [] left) (text_of hand left') hand (Err f) → TextOutcome left left' (Err f)
 head_stops (fault.Line f) line hand left left' h = bare hand left left' (λ t t'. HeaderBreak t f) (λ b b'. TextBreak b f) h.1 (λ b b' s. inl s)
 head_stops fault.ReadFault line hand left left' h = bare hand left left' (IsCutOff line) TakenSo h.1 (λ b b' s. head_cut line hand b b' h.0 s)
 head_stops fault.Memory line hand left left' h = tt
 
--- the images
+-- the header was read
 abbrev pub Begun : ℕ → Header → List ℕ → List ℕ → Type 0
 Begun line h t t' = HasHeader t line h t'
 
@@ -64,6 +67,7 @@ images_cut line h b b' rest has (n, few, left) =
       inr (fault, refl, images_short line h fault (f.0 ++ part) part (record { reads = f.2 part }) (short, refl)),
     )
 
+-- the images' fault is that of the text
 pub images_stop : (f : ScheduleFault) (line : ℕ) (h : Header) (hand : List ℕ) (left mid left' : Option (List ℕ)) → Of (text_of [] left) mid (Begun line h) → ImagesAnswer line (total h.tasks) mid (text_of hand left') hand (Err f)
     → TextOutcome left left' (Err f)
 images_stop (fault.Line f) line h hand left mid left' has stops =
@@ -76,14 +80,15 @@ images_stop fault.ReadFault line h hand left mid left' has stops =
     (λ b b' s. subst (λ (u : List ℕ). TakenSo b (u ++ b')) stops.0 s)
 images_stop fault.Memory line h hand left mid left' has stops = tt
 
--- header and images
+-- header and images were read
 abbrev pub Opened : ℕ → Header → List ℕ → List ℕ → Type 0
 Opened line h t t' = (rest : List ℕ) × Begun line h t rest × IsBehind (total h.tasks) rest t'
 
 pub opened : (line : ℕ) (h : Header) (a b c : Option (List ℕ)) → Of a b (Begun line h) → Of b c (IsBehind (total h.tasks)) → Of a c (Opened line h)
 opened line h a b c has passed = of_then a b c (Begun line h) (IsBehind (total h.tasks)) (Opened line h) has passed (λ x y z p q. (y, p, q))
 
-has_commands : (line count : ℕ) (h : Header) (cs : List Command) (t m middle : List ℕ) → Opened line h t m → commands_after count line m ≡ Ok (cs, middle) → HasCommands t line count cs middle
+-- and so were these commands
+pub has_commands : (line count : ℕ) (h : Header) (cs : List Command) (t m middle : List ℕ) → Opened line h t m → commands_after count line m ≡ Ok (cs, middle) → HasCommands t line count cs middle
 has_commands line count h cs t m middle o reads =
     record { progress = h; rest = o.0; header = o.1; images = o.2.0; reads = ap (commands_after count line) (sym o.2.1) ∙ reads }
 
@@ -117,7 +122,7 @@ commands_break line h f t m o (n, cs, k, given, next) =
     inr (inr (record { lines = line; count = n; commands = cs; behind = k; begun = has_commands line n h cs t m k o given.0; goes_on = given.1; refused = next }))
 
 -- header, images and commands stand in any text that goes on after them
-opened_front : (line n : ℕ) (h : Header) (cs : List Command) (t m k : List ℕ) → Opened line h t m → FirstCommands line n cs m k
+pub opened_front : (line n : ℕ) (h : Header) (cs : List Command) (t m k : List ℕ) → Opened line h t m → FirstCommands line n cs m k
     → (x : List ℕ) × (t ≡ x ++ k) × ((v : List ℕ) → (u : List ℕ) × Opened line h (x ++ v) u × (commands_after n line u ≡ Ok (cs, v)))
 opened_front line n h cs t m k o given =
     let len = total h.tasks in
@@ -146,7 +151,7 @@ opened_front line n h cs t m k o given =
     )
 
 -- a read failed where a command was looked for
-command_cut_off : (line n : ℕ) (h : Header) (cs : List Command) (hand b b' m : List ℕ) → line_at hand ≡ Open → Opened line h b m → FirstCommands line n cs m (hand ++ b') → TakenSo b b'
+pub command_cut_off : (line n : ℕ) (h : Header) (cs : List Command) (hand b b' m : List ℕ) → line_at hand ≡ Open → Opened line h b m → FirstCommands line n cs m (hand ++ b') → TakenSo b b'
 command_cut_off line n h cs hand b b' m open_ o given =
     let f = opened_front line n h cs b m (hand ++ b') o given in
     let fault : LineFault = record { line = line + (n + 1); reason = reason.Cut } in
@@ -168,7 +173,8 @@ ends_at line count s rest (Line w r) is (row, same) =
 ends_at line count s rest Long is e = absurd e
 ends_at line count s rest Open is e = absurd e
 
-end_cut_off : (line n : ℕ) (h : Header) (cs : List Command) (b b' m k : List ℕ) → Opened line h b m → FirstCommands line n cs m k → EndsAt (line_at k) b' → TakenSo b b'
+-- a read failed behind `end`
+pub end_cut_off : (line n : ℕ) (h : Header) (cs : List Command) (b b' m k : List ℕ) → Opened line h b m → FirstCommands line n cs m k → EndsAt (line_at k) b' → TakenSo b b'
 end_cut_off line n h cs b b' m k o given ends =
     let f = opened_front line n h cs b m k o given in
     let e = ends_at (line + (n + 1)) n k b' (line_at k) refl ends in
@@ -182,6 +188,7 @@ commands_taken : (line : ℕ) (h : Header) (hand b b' m : List ℕ) → line_at 
 commands_taken line h hand b b' m open_ o (n, cs, k, given, inl same) = command_cut_off line n h cs hand b b' m open_ o (subst (λ (u : List ℕ). FirstCommands line n cs m u) (sym same) given)
 commands_taken line h hand b b' m open_ o (n, cs, k, given, inr ends) = end_cut_off line n h cs b b' m k o given (subst (λ (u : List ℕ). EndsAt (line_at k) (u ++ b')) ends.0 ends.1)
 
+-- the commands' answer is that of the text
 pub commands_end : (r : Result (Unit {0}) ScheduleFault) (line : ℕ) (h : Header) (hand : List ℕ) (left mid left' : Option (List ℕ)) → Of (text_of [] left) mid (Opened line h) → CommandsAnswer line mid (text_of hand left') hand r
     → TextOutcome left left' r
 commands_end (Ok u) line h hand left mid left' o ends =
