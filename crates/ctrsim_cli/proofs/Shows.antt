@@ -9,7 +9,7 @@ use Rattle.perf_sample.specs.declared.sample.Sample.{Sample}
 use Rattle.perf_sample.specs.Layout.{LayoutWords}
 use Rattle.perf_sample.specs.Spelling.{spelling, Spells}
 use Rattle.perf_sample.specs.Range.{IsSample}
-use Rattle.perf_sample.specs.Reader.{Reader, most, fresh, after, Nexted}
+use Rattle.perf_sample.specs.Reader.{Reader, most, fresh, after, IsNextAnswer}
 use Rattle.ctrsim_cli.specs.SampleText.{shown_sample}
 use Rattle.ctrsim_cli.specs.Showing.{joined, texts, Went}
 
@@ -100,7 +100,7 @@ begins gained layout left old r nothing is = record {
 -- one sample more
 pub goes_on : {K : Type 0} (gained : K → List ℕ → K → Type 0) → ((a b c : K) (x y : List ℕ) → gained a x b → gained b y c → gained a (x ++ y) c)
     → (layout : LayoutWords) (left middle left' : Option (List ℕ)) (old mid new : K) (r r' : Reader) (s : Sample)
-    → Shows gained layout left middle old mid r → r' ≡ after r (Ok (Some s)) → Nexted r.layout r.given middle left' (Ok (Some s)) → IsSample s
+    → Shows gained layout left middle old mid r → r' ≡ after r (Ok (Some s)) → IsNextAnswer r.layout r.given middle left' (Ok (Some s)) → IsSample s
     → gained mid (shown_sample layout r'.offset s) new
     → Shows gained layout left left' old new r'
 goes_on gained joins layout left middle left' old mid new r r' s so is nexted range wrote =

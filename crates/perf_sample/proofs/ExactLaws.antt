@@ -9,7 +9,7 @@ use Rattle.perf_sample.specs.Spelling.{Spells}
 use Rattle.perf_sample.specs.Breaks.{Breaks}
 use Rattle.perf_sample.specs.Range.{IsSample}
 use Rattle.perf_sample.specs.Reading.{Cause, OfRead, OfCount, OfBytes, cause_of}
-use Rattle.perf_sample.specs.Reader.{most, Refuses, Nexted, Answers}
+use Rattle.perf_sample.specs.Reader.{most, Refuses, IsNextAnswer, Answers}
 use Rattle.perf_sample.proofs.BreakLaws.{not_empty}
 use Rattle.perf_sample.proofs.SpellingLaws.{length_spelling}
 use Rattle.perf_sample.proofs.OneSpelling.{spelled_whole, one_spelling}
@@ -32,7 +32,7 @@ refused OfCount layout given t None f h = absurd h.1
 refused OfCount layout given t (Some u) f h = (h.0, h.1.0, u, h.1.1)
 refused OfRead layout given t left' f h = tt
 
-told : (r : Result (Option Sample) SampleFault) (layout : LayoutWords) (given : ℕ) (t : List ℕ) (left' : Option (List ℕ)) → Nexted layout given (Some t) left' r → Told layout given t r
+told : (r : Result (Option Sample) SampleFault) (layout : LayoutWords) (given : ℕ) (t : List ℕ) (left' : Option (List ℕ)) → IsNextAnswer layout given (Some t) left' r → Told layout given t r
 told (Ok None) layout given t None h = absurd h
 told (Ok None) layout given t (Some u) h = h.0
 told (Ok (Some s)) layout given t None (few, x, spells, took) = absurd took
@@ -91,8 +91,8 @@ none_told (Ok None) layout given h = inl refl
 none_told (Ok (Some s)) layout given (few, x, rest, spells, e) = absurd (not_empty x rest (spelled_some layout s x spells) (sym e))
 none_told (Err f) layout given h = none_by (cause_of f) layout given f refl h
 
-pub exact_none : (r : Result (Option Sample) SampleFault) (layout : LayoutWords) (given : ℕ) (left left' : Option (List ℕ)) → Nexted layout given left left' r → left ≡ Some [] → Answers r (Ok None)
-exact_none r layout given left left' h e = none_told r layout given (told r layout given [] left' (subst (λ (l : Option (List ℕ)). Nexted layout given l left' r) e h))
+pub exact_none : (r : Result (Option Sample) SampleFault) (layout : LayoutWords) (given : ℕ) (left left' : Option (List ℕ)) → IsNextAnswer layout given left left' r → left ≡ Some [] → Answers r (Ok None)
+exact_none r layout given left left' h e = none_told r layout given (told r layout given [] left' (subst (λ (l : Option (List ℕ)). IsNextAnswer layout given l left' r) e h))
 
 -- a spelling stands at the front
 pub clash : (layout : LayoutWords) (s : Sample) (x rest u : List ℕ) (f : SampleFault) → Spells layout s x → Breaks layout (x ++ rest) f u → ⊥
@@ -111,10 +111,10 @@ sample_told (Ok (Some t)) layout given s x rest few is spells range (less, y, u,
     inl (ap (λ (t : Sample). answer t) (sym (one_spelling layout s t x y rest u is range spells other e).0))
 sample_told (Err f) layout given s x rest few is spells range h = sample_by (cause_of f) layout given s x rest f refl few spells h
 
-pub exact_sample : (r : Result (Option Sample) SampleFault) (layout : LayoutWords) (given : ℕ) (left left' : Option (List ℕ)) (s : Sample) (x rest : List ℕ) → Nexted layout given left left' r
+pub exact_sample : (r : Result (Option Sample) SampleFault) (layout : LayoutWords) (given : ℕ) (left left' : Option (List ℕ)) (s : Sample) (x rest : List ℕ) → IsNextAnswer layout given left left' r
     → IfOk r (λ next. IfSome next IsSample) → given < most → IsSample s → Spells layout s x → left ≡ Some (x ++ rest) → Answers r (Ok (Some s))
 exact_sample r layout given left left' s x rest h range few is spells e =
-    sample_told r layout given s x rest few is spells range (told r layout given (x ++ rest) left' (subst (λ (l : Option (List ℕ)). Nexted layout given l left' r) e h))
+    sample_told r layout given s x rest few is spells range (told r layout given (x ++ rest) left' (subst (λ (l : Option (List ℕ)). IsNextAnswer layout given l left' r) e h))
 
 -- the bytes break
 break_by : (c : Cause) (layout : LayoutWords) (given : ℕ) (t u : List ℕ) (f g : SampleFault) → cause_of g ≡ c → given < most → Breaks layout t f u → Refused c layout given t g → Answers (Err g) (Err f)
@@ -127,10 +127,10 @@ break_told (Ok None) layout given t u f few breaks h = absurd (breaks.some h)
 break_told (Ok (Some s)) layout given t u f few breaks (less, x, rest, spells, e) = absurd (clash layout s x rest u f spells (subst (λ (b : List ℕ). Breaks layout b f u) e breaks))
 break_told (Err g) layout given t u f few breaks h = break_by (cause_of g) layout given t u f g refl few breaks h
 
-pub exact_break : (r : Result (Option Sample) SampleFault) (layout : LayoutWords) (given : ℕ) (left left' : Option (List ℕ)) (t u : List ℕ) (f : SampleFault) → Nexted layout given left left' r → given < most
+pub exact_break : (r : Result (Option Sample) SampleFault) (layout : LayoutWords) (given : ℕ) (left left' : Option (List ℕ)) (t u : List ℕ) (f : SampleFault) → IsNextAnswer layout given left left' r → given < most
     → Breaks layout t f u → left ≡ Some t → Answers r (Err f)
 exact_break r layout given left left' t u f h few breaks e =
-    break_told r layout given t u f few breaks (told r layout given t left' (subst (λ (l : Option (List ℕ)). Nexted layout given l left' r) e h))
+    break_told r layout given t u f few breaks (told r layout given t left' (subst (λ (l : Option (List ℕ)). IsNextAnswer layout given l left' r) e h))
 
 -- all samples that a reader gives were given, and a byte is left
 full_by : (c : Cause) (layout : LayoutWords) (given : ℕ) (t : List ℕ) (f : SampleFault) → cause_of f ≡ c → given ≡ most → Refused c layout given t f → Answers (Err f) (Err fault.TooMany)
@@ -143,7 +143,7 @@ full_told (Ok None) layout given b t full h = absurd cc
 full_told (Ok (Some s)) layout given b t full (few, x, rest, spells, e) = absurd (omega (arith, few, full))
 full_told (Err f) layout given b t full h = full_by (cause_of f) layout given (b ∷ t) f refl full h
 
-pub exact_full : (r : Result (Option Sample) SampleFault) (layout : LayoutWords) (given : ℕ) (left left' : Option (List ℕ)) (b : ℕ) (t : List ℕ) → Nexted layout given left left' r → given ≡ most → left ≡ Some (b ∷ t)
+pub exact_full : (r : Result (Option Sample) SampleFault) (layout : LayoutWords) (given : ℕ) (left left' : Option (List ℕ)) (b : ℕ) (t : List ℕ) → IsNextAnswer layout given left left' r → given ≡ most → left ≡ Some (b ∷ t)
     → Answers r (Err fault.TooMany)
 exact_full r layout given left left' b t h full e =
-    full_told r layout given b t full (told r layout given (b ∷ t) left' (subst (λ (l : Option (List ℕ)). Nexted layout given l left' r) e h))
+    full_told r layout given b t full (told r layout given (b ∷ t) left' (subst (λ (l : Option (List ℕ)). IsNextAnswer layout given l left' r) e h))

@@ -1,9 +1,12 @@
 -- Where bytes break a layout: at the first field from the left that is broken (perf_event.h,
 -- PERF_RECORD_SAMPLE). Each field has eight bytes.
-use Rattle.std.specs.Prelude.{◌≡◌, ◌≢◌, ℕ, zero, suc, ◌+◌, ◌*◌, ◌-◌, ◌%◌, Bool, true, false, ◌&&◌, if◌then◌else◌, nat_eq, nat_le, nat_lt, List, [], ◌∷◌, ◌++◌, map, length, drop, Option, Some, None}
+use Rattle.std.specs.Prelude.{◌≡◌, ◌≢◌, ℕ, zero, suc, ◌+◌, ◌*◌, ◌-◌, ◌%◌, Bool, true, false, ◌&&◌}
+use Rattle.std.specs.Prelude.{if◌then◌else◌, nat_eq, nat_le, nat_lt, List, [], ◌∷◌, ◌++◌, map}
+use Rattle.std.specs.Prelude.{length, drop, Option, Some, None}
 use Rattle.byteorder.specs.Endian.{little_number}
 use Rattle.perf_sample.specs.Layout.{LayoutWords, all_fields, fields_in, fixed_len, nr_at}
-use Rattle.perf_sample.specs.declared.flags.TheConstants.{FIRST_RESERVED, BRANCH_SIZE, PERF_RECORD_SAMPLE}
+use Rattle.perf_sample.specs.declared.flags.TheConstants.{FIRST_RESERVED, BRANCH_SIZE}
+use Rattle.perf_sample.specs.declared.flags.TheConstants.{PERF_RECORD_SAMPLE}
 use Rattle.perf_sample.specs.declared.faults.Place.{Place}
 use Rattle.perf_sample.specs.declared.faults.Place.TheVariants as place
 use Rattle.perf_sample.specs.declared.faults.SampleFault.{SampleFault}

@@ -1,3 +1,6 @@
+-- What a reader must believe: Words, Layout, Spelling, Breaks, BranchRange, Range, Blank, Cases,
+-- Reader, PerfType and Flags, and the causes of faults in Reading. The rest of Reading and Rows tie
+-- private functions to them.
 pub mod Words
 pub mod Layout
 pub mod Spelling

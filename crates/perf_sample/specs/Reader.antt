@@ -1,5 +1,6 @@
 -- What contracts see of a reader of samples, and what its calls say.
-use Rattle.std.specs.Prelude.{◌≡◌, ◌⊎◌, ℕ, ◌+◌, ◌^◌, ◌<◌, true, List, [], ◌∷◌, length, Option, Some, None, Result, Ok, Err}
+use Rattle.std.specs.Prelude.{◌≡◌, ◌⊎◌, ℕ, ◌+◌, ◌^◌, ◌<◌, true, List, [], ◌∷◌, length, Option, Some}
+use Rattle.std.specs.Prelude.{None, Result, Ok, Err}
 use Rattle.std.specs.Io.KnownBytes.{Consumes}
 use Rattle.ctr_port.specs.InHand.{Of}
 use Rattle.perf_sample.specs.declared.sample.Sample.{Sample}
@@ -47,12 +48,12 @@ Refuses OfRead layout given left left' f =
 -- what the next call answers after so many samples, of the bytes that a source has left: there is
 -- none, and no sample; they begin with the spelling of a sample, and it alone is taken; or there is
 -- a fault. After a fault of the bytes those up to the end of the broken field are taken
-abbrev pub Nexted : LayoutWords → ℕ → Option (List ℕ) → Option (List ℕ)
+abbrev pub IsNextAnswer : LayoutWords → ℕ → Option (List ℕ) → Option (List ℕ)
     → Result (Option Sample) SampleFault → Type 0
-Nexted layout given left left' (Ok None) = Of left left' (λ t t'. (t ≡ []) × (t' ≡ []))
-Nexted layout given left left' (Ok (Some s)) =
+IsNextAnswer layout given left left' (Ok None) = Of left left' (λ t t'. (t ≡ []) × (t' ≡ []))
+IsNextAnswer layout given left left' (Ok (Some s)) =
     (given < most) × (bytes : List ℕ) × Spells layout s bytes × Consumes left left' bytes
-Nexted layout given left left' (Err f) = Refuses (cause_of f) layout given left left' f
+IsNextAnswer layout given left left' (Err f) = Refuses (cause_of f) layout given left left' f
 
 -- the reader after an answer
 abbrev pub after : Reader → Result (Option Sample) SampleFault → Reader

@@ -3,7 +3,8 @@
 ghost use Rattle.std.specs.Prelude.{◌≡◌, ◌≤◌, [], All, IfOk};
 ghost use Rattle.ctr_port.specs.Counts.{HasCause};
 ghost use Rattle.perf_sample.specs.BranchRange.{IsBranch};
-ghost use Rattle.perf_sample.specs.Reading.{is_read, TakesPlace, TakesNumber, TakesBranch, TakesBranches, TakesNr};
+ghost use Rattle.perf_sample.specs.Reading.{is_read, TakesPlace, TakesNumber, TakesBranch};
+ghost use Rattle.perf_sample.specs.Reading.{TakesBranches, TakesNr};
 
 use crate::branches::Branches;
 use crate::faults::{Place, SampleFault};

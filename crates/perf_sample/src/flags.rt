@@ -1,7 +1,8 @@
 //! The numbers of `perf_event.h` that a sample is made of, and a recorded transfer as a branch.
 
 ghost use Rattle.std.specs.Prelude.{◌≡◌, ◌<◌, ◌^◌};
-ghost use Rattle.perf_sample.specs.Flags.{is_predicted, prediction, transfer_flags, transfer_branch};
+ghost use Rattle.perf_sample.specs.Flags.{is_predicted, prediction, transfer_flags};
+ghost use Rattle.perf_sample.specs.Flags.{transfer_branch};
 
 use crate::perf_types::perf_type;
 use crate::sample::Branch;

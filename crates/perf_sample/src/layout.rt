@@ -1,7 +1,8 @@
 //! Which fields a sample has.
 
 ghost use Rattle.std.specs.Prelude.{◌≡◌, ◌≤◌, ◌<◌, IsTrue, IsNone, IfSome, All, ◌↔◌};
-ghost use Rattle.perf_sample.specs.Layout.{IsLayout, IsBranchWord, of_sample_type, has_bit, has, all_fields, fixed_len, LeftOut, FlagsFit, Fits};
+ghost use Rattle.perf_sample.specs.Layout.{IsLayout, IsBranchWord, of_sample_type, has_bit, has};
+ghost use Rattle.perf_sample.specs.Layout.{all_fields, fixed_len, LeftOut, FlagsFit, Fits};
 ghost use Rattle.perf_sample.specs.Breaks.{is_size};
 
 use crate::faults::Place;
@@ -117,8 +118,8 @@ impl Layout {
         (self.bits >> bit) % 2 == 1
     }
 
-    /// Whether the layout has a field (enum perf_event_sample_format); the number of branches, and the fields of a branch,
-    /// are in each layout.
+    /// Whether the layout has a field (enum perf_event_sample_format); the number of branches, and
+    /// the fields of a branch, are in each layout.
     pub fn has(self, place: Place) -> bool
         ensures { result ≡ has self place }
     {

@@ -17,9 +17,9 @@ mod layout;
 mod numbers;
 mod perf_types;
 mod reader;
+mod reading;
 mod rows;
 mod sample;
-mod whole;
 mod words;
 mod writing;
 

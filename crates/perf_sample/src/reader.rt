@@ -1,6 +1,7 @@
 //! Samples read from their source, call by call.
 
-ghost use Rattle.std.specs.Prelude.{◌≡◌, ℕ, ◌≤◌, ◌<◌, List, [], ◌∷◌, ◌++◌, Some, None, length, IfOk, IfSome};
+ghost use Rattle.std.specs.Prelude.{◌≡◌, ℕ, ◌≤◌, ◌<◌, List, [], ◌∷◌, ◌++◌, Some, None, length};
+ghost use Rattle.std.specs.Prelude.{IfOk, IfSome};
 ghost use Rattle.perf_sample.specs.Reading.{is_read};
 ghost use Rattle.ctr_port.specs.Counts.{HasCause};
 ghost use Rattle.perf_sample.specs.Layout.{LayoutWords};
@@ -9,13 +10,13 @@ ghost use Rattle.perf_sample.specs.Breaks.{Breaks};
 ghost use Rattle.perf_sample.specs.declared.sample.Sample.{Sample};
 ghost use Rattle.perf_sample.specs.declared.faults.SampleFault.{SampleFault};
 ghost use Rattle.perf_sample.specs.Range.{IsSample};
-ghost use Rattle.perf_sample.specs.Reader.{fresh, most, Nexted, after, Answers};
+ghost use Rattle.perf_sample.specs.Reader.{fresh, most, IsNextAnswer, after, Answers};
 
 use crate::faults::SampleFault;
 use crate::flags::BRANCH_SIZE;
 use crate::layout::Layout;
+use crate::reading::read_sample;
 use crate::sample::Sample;
-use crate::whole::read_sample;
 use ctr_port::{Got, Source};
 use std::marker::Model;
 
@@ -61,7 +62,7 @@ fn length_of(layout: Layout, sample: &Sample) -> u64
 // Looks for a byte behind the last sample that is given.
 fn look_past<S: Source>(source: &mut S) -> Result<Option<Sample>, SampleFault>
     ensures nexted { (layout : LayoutWords)
-        → Nexted layout most (S.left source.old) (S.left source.new) result }
+        → IsNextAnswer layout most (S.left source.old) (S.left source.new) result }
     ensures none { IfOk result (λ next. next ≡ None) }
     ensures cause { HasCause is_read (S.faults source.old) (S.faults source.new) result }
 {
@@ -80,7 +81,7 @@ fn read_next<S: Source>(
     given: u32,
 ) -> Result<Option<Sample>, SampleFault>
     requires { given ≤ most }
-    ensures nexted { Nexted layout given (S.left source.old) (S.left source.new) result }
+    ensures nexted { IsNextAnswer layout given (S.left source.old) (S.left source.new) result }
     ensures range { IfOk result (λ next. IfSome next IsSample) }
     ensures cause { HasCause is_read (S.faults source.old) (S.faults source.new) result }
 {
@@ -115,7 +116,7 @@ impl SampleReader {
 
     // The next answer of a reader that has refused nothing.
     fn answer<S: Source>(&mut self, source: &mut S) -> Result<Option<Sample>, SampleFault>
-        ensures nexted { Nexted self.old.layout self.old.given (S.left source.old)
+        ensures nexted { IsNextAnswer self.old.layout self.old.given (S.left source.old)
             (S.left source.new) result }
         ensures range { IfOk result (λ next. IfSome next IsSample) }
         ensures after { self.new ≡ after self.old result }
@@ -144,7 +145,8 @@ impl SampleReader {
     /// without a read.
     pub fn next<S: Source>(&mut self, source: &mut S) -> Result<Option<Sample>, SampleFault>
         ensures nexted { self.old.refused ≡ None
-            → Nexted self.old.layout self.old.given (S.left source.old) (S.left source.new) result }
+            → IsNextAnswer self.old.layout self.old.given (S.left source.old)
+            (S.left source.new) result }
         ensures after { self.old.refused ≡ None → self.new ≡ after self.old result }
         ensures again { (fault : SampleFault) → self.old.refused ≡ Some fault
             → (result ≡ Err fault) × (self.new ≡ self.old) × (source.new ≡ source.old) }

@@ -606,26 +606,41 @@ fn a_fault_is_told_again_without_a_read(rt: HostRuntime) -> Result<(), Fail> {
     Ok(())
 }
 
-#[test]
-fn a_failing_read_is_told_and_told_again(rt: HostRuntime) -> Result<(), Fail> {
-    let layout = Layout::of(0x803).ok_or("a layout")?;
-    // 56 bytes in reads of one byte, and one more read that looks past the end.
-    for call in 0..57u64 {
+// Reads a sample of one branch, each byte by a read of its own, and one more read that looks past
+// the end. Each of these reads fails in turn: the fault is answered, and again without a read.
+fn fails_at_each_read(
+    rt: &impl Abort,
+    alloc: Global,
+    layout: Layout,
+    bytes: &[u8],
+) -> Result<(), Fail> {
+    let len = bytes.len() as u64;
+    for call in 0..len.saturating_add(1) {
         let mut source = Counted {
-            source: MemSource::new(rt.alloc(), &ONE_CALL, &[1], &[call])?,
+            source: MemSource::new(alloc, bytes, &[1], &[call])?,
             reads: 0,
         };
         let mut reader = SampleReader::new(layout);
         let mut wanted = (Err(SampleFault::ReadFault), 0);
-        if call == 56 {
+        if call == len {
             assert_eq!(rt; step(&mut reader, &mut source), (Ok(Some(1)), 0));
-            wanted.1 = 56;
+            wanted.1 = len;
         }
         assert_eq!(rt; step(&mut reader, &mut source), wanted, "at {call}");
         assert_eq!(rt; step(&mut reader, &mut source), wanted, "at {call}");
-        assert_eq!(rt; source.reads, call + 1);
+        assert_eq!(rt; source.reads, call.saturating_add(1));
     }
     Ok(())
+}
+
+#[test]
+fn a_failing_read_is_told_and_told_again(rt: HostRuntime) -> Result<(), Fail> {
+    let layout = Layout::of(0x803).ok_or("a layout")?;
+    fails_at_each_read(&rt, rt.alloc(), layout, &ONE_CALL)?;
+    let every = Layout::of(0x10BCF).ok_or("a layout")?;
+    fails_at_each_read(&rt, rt.alloc(), every, &EVERY_FIELD)?;
+    let indexed = every.with_branch(HW_INDEX).ok_or("a layout")?;
+    fails_at_each_read(&rt, rt.alloc(), indexed, &EVERY_FIELD_AND_THE_INDEX)
 }
 
 // The smallest samples, those of the layout 800 with no branches: so many fields, a header and the

@@ -10,7 +10,7 @@ use Rattle.perf_sample.specs.Reading.{TakesHeader}
 use Rattle.perf_sample.specs.declared.faults.Place.TheVariants as place
 use Rattle.perf_sample.proofs.HeaderLaws.{length_header}
 use Rattle.perf_sample.proofs.SampleLaws.{broke_after, up_to_nr, with_nr, index_fields, index_bytes, breaks_in_rows, breaks_in_nr, breaks_in_index, breaks_in_branches, whole_spells, longer, longer_still, longest}
-use Rattle.perf_sample.proofs.whole.read_sample.Goals as goal
+use Rattle.perf_sample.proofs.reading.read_sample.Goals as goal
 
 pub returns-in_err-read_rows-clause-takes : goal.returns-in_err-read_rows-clause-takes
 returns-in_err-read_rows-clause-takes g c =
