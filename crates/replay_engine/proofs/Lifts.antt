@@ -8,7 +8,7 @@ use Rattle.ctr_csrs.specs.Depths.{entries_of}
 use Rattle.indirect_regs.specs.Unit.{UnitState}
 use Rattle.rv_hart.specs.Hart.{HartState}
 use Rattle.task_switch.specs.SaveArea.{area_of, unit_in}
-use Rattle.task_switch.specs.Passed.{with_last_select}
+use Rattle.task_switch.specs.WhilePassing.{with_last_select}
 use Rattle.replay_engine.specs.Tasks.{TaskState, AreInverse, PlacesAgree, state_on}
 use Rattle.replay_engine.specs.Tasks.{state_off, state_at, state_by, present_state}
 use Rattle.replay_engine.specs.Tasks.{place_of, places, resident_of, residents}

@@ -2,7 +2,7 @@
 ghost use Rattle.std.specs.Prelude.{◌≡◌, ◌+◌, ◌*◌, ◌≤◌, ◌^◌, Some, None};
 ghost use Rattle.ctr_csrs.specs.Depths.{entries_of};
 ghost use Rattle.task_switch.specs.SaveArea.{area_of, unit_in};
-ghost use Rattle.task_switch.specs.Passed.{with_last_select};
+ghost use Rattle.task_switch.specs.WhilePassing.{with_last_select};
 
 use crate::task::Task;
 use rv_hart::{Hart, Store};

@@ -5,7 +5,7 @@ ghost use Rattle.std.specs.Bool.{OnTrue, OnFalse};
 ghost use Rattle.ctr_csrs.specs.Depths.{entries_of};
 ghost use Rattle.rv_hart.specs.Hart.{HartState};
 ghost use Rattle.task_switch.specs.SaveArea.{area_of, unit_in};
-ghost use Rattle.task_switch.specs.Passed.{with_last_select};
+ghost use Rattle.task_switch.specs.WhilePassing.{with_last_select};
 ghost use Rattle.replay_engine.specs.Counts.{HasRoom};
 ghost use Rattle.replay_engine.specs.Tasks.{TaskState, places, residents, PlacesAgree};
 ghost use Rattle.replay_engine.specs.View.{view_of, after_leaving, after_arriving, after_parting};

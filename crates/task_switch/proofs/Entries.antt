@@ -10,7 +10,7 @@ use Rattle.ctr_buffer.specs.Stack.{Stack, entry_at, poked}
 use Rattle.indirect_regs.specs.Unit.{UnitState}
 use Rattle.indirect_regs.specs.Ports.{written}
 use Rattle.indirect_regs.specs.declared.port.PortReg.TheVariants.{Select}
-use Rattle.task_switch.specs.Passed.{select_after, filled}
+use Rattle.task_switch.specs.WhilePassing.{select_after, filled}
 
 -- a part of entry i is written
 abbrev pub part_put : ℕ → Part → ℕ → Stack → Stack

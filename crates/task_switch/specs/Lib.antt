@@ -1,3 +1,3 @@
--- What a reader must believe: SaveArea. Passed ties the loops over entries to it.
+-- What a reader must believe: SaveArea. WhilePassing ties the loops over entries to it.
 pub mod SaveArea
-pub mod Passed
+pub mod WhilePassing

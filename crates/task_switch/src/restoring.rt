@@ -3,7 +3,7 @@ ghost use Rattle.ctr_csrs.specs.Depths.{entries_of};
 ghost use Rattle.ctr_csrs.specs.StatusFigure.{pointer_in, frozen_in};
 ghost use Rattle.ctr_buffer.specs.Entry.{zero_entry};
 ghost use Rattle.task_switch.specs.SaveArea.{unit_in, IsWhole};
-ghost use Rattle.task_switch.specs.Passed.{filled};
+ghost use Rattle.task_switch.specs.WhilePassing.{filled};
 
 use crate::entry::write_entry;
 use crate::save_area::SaveArea;

@@ -1,7 +1,7 @@
 ghost use Rattle.std.specs.Prelude.{◌≡◌, ◌≤◌, ◌+◌, ◌*◌, ◌^◌, take, length};
 ghost use Rattle.ctr_csrs.specs.Depths.{entries_of};
 ghost use Rattle.task_switch.specs.SaveArea.{area_of, unit_in, IsWhole};
-ghost use Rattle.task_switch.specs.Passed.{passed, with_last_select};
+ghost use Rattle.task_switch.specs.WhilePassing.{passed, with_last_select};
 
 use crate::entry::{read_depth, read_entry};
 use crate::save_area::SaveArea;

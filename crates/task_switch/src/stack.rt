@@ -1,7 +1,7 @@
 ghost use Rattle.std.specs.Prelude.{◌≡◌, ◌≤◌, ◌<◌, ◌+◌, ◌*◌, ◌^◌, ◌++◌, ◌∷◌, [], take, length};
 ghost use Rattle.ctr_csrs.specs.Depths.{entries_of};
 ghost use Rattle.ctr_buffer.specs.Entry.{valid_entries};
-ghost use Rattle.task_switch.specs.Passed.{passed};
+ghost use Rattle.task_switch.specs.WhilePassing.{passed};
 
 use crate::entry::{read_depth, read_entry};
 use crate::slots::Slots;

@@ -1,5 +1,5 @@
 use Rattle.std.proofs.Common.{◌≡◌, ◌+◌, ◌*◌}
-use Rattle.task_switch.specs.Passed.{filled}
+use Rattle.task_switch.specs.WhilePassing.{filled}
 use Rattle.task_switch.proofs.restoring.write_entries.Given as goal
 
 abbrev pub invariant-loop-slot : goal.invariant-loop-slot

@@ -1,5 +1,5 @@
 use Rattle.std.proofs.Common.{◌≡◌, ◌+◌, ◌*◌, take}
-use Rattle.task_switch.specs.Passed.{passed}
+use Rattle.task_switch.specs.WhilePassing.{passed}
 use Rattle.task_switch.proofs.saving.read_entries.Given as goal
 
 abbrev pub invariant-loop-i : goal.invariant-loop-i

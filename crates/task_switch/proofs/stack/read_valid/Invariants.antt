@@ -1,6 +1,6 @@
 use Rattle.std.proofs.Common.{◌≡◌, ◌≤◌, ◌+◌, ◌*◌, take, length}
 use Rattle.ctr_buffer.specs.Entry.{valid_entries}
-use Rattle.task_switch.specs.Passed.{passed}
+use Rattle.task_switch.specs.WhilePassing.{passed}
 use Rattle.task_switch.proofs.stack.read_valid.Given as goal
 
 abbrev pub invariant-loop-i : goal.invariant-loop-i

@@ -3,7 +3,7 @@ use Rattle.std.specs.Prelude.{None}
 use Rattle.ctr_csrs.specs.Depths.{entries_of}
 use Rattle.rv_hart.specs.Hart.{HartState}
 use Rattle.task_switch.specs.SaveArea.{area_of}
-use Rattle.task_switch.specs.Passed.{with_last_select}
+use Rattle.task_switch.specs.WhilePassing.{with_last_select}
 use Rattle.replay_engine.specs.Tasks.{TaskState}
 use Rattle.replay_engine.proofs.Items.{got_item, some_of}
 use Rattle.replay_engine.proofs.Lifts.{room_at, lift_task, lift_hart}
