@@ -1,12 +1,15 @@
 -- A header is read exactly as its grammar has it.
-use Rattle.std.proofs.Common.{◌≡◌, ℕ, zero, suc, List, [], ◌∷◌, ◌++◌, map, length, nat_lt, if◌then◌else◌, Bool, true, false, Option, None, Some, Result, Ok, Err, codes, refl, sym, ap, ◌∙◌, subst, arith, append_assoc, append-nil, length-append}
+use Rattle.std.proofs.Common.{◌≡◌, ◌≢◌, ℕ, ◌<◌, eqb, zero, suc, List, [], ◌∷◌, ◌++◌, map, length, nat_lt, if◌then◌else◌, Bool, true, false, Option, None, Some, Result, Ok, Err, codes, refl, sym, ap, ◌∙◌, subst, arith, append_assoc, append-nil, length-append}
+use Rattle.std.specs.List.{All}
+use Rattle.std.proofs.lemmas.Bool.{eqb-false}
 use Rattle.std.proofs.lemmas.List.{map-append}
+use Rattle.std.proofs.lemmas.List.Elements.{All-cons, All-append, All-nil}
 use Rattle.std.proofs.lemmas.Grind.{flat_map-append}
-use Rattle.sched_text.specs.Lines.{LineCut, Line, Long, Open, line_at}
+use Rattle.sched_text.specs.Lines.{LineCut, Line, Long, Open, put_front, line_within, line_at}
 use Rattle.sched_text.specs.Rows.{◌>>=◌, has_form, version_of, harts_of, layout_of, branch_of, task_of, irq_of}
 use Rattle.sched_text.specs.Irqs.{irq_refusal}
 use Rattle.sched_text.specs.Header.{HeaderLines, NoLine, Versioned, Counted, LaidOut, Rows, Whole, no_rows, with_layout, add_task, with_task, irq_line, add_judged, add_irq, with_irq, with_images, irq_or_images, with_row, with_line, row_cut, header_cut, next_line, after, HasHeader}
-use Rattle.sched_text.specs.Grammar.{spelled, HasBranch, irq_line_of, says_tasks, says_irqs, AreRows, AreHeaderRows, IsGrammatical}
+use Rattle.sched_text.specs.Grammar.{spelled, IsLine, HasBranch, irq_line_of, says_tasks, says_irqs, AreRows, AreHeaderRows, IsGrammatical}
 use Rattle.sched_text.specs.declared.rows.IrqWords.{IrqWords}
 use Rattle.sched_text.specs.declared.rows.Version.{Version}
 use Rattle.sched_text.specs.declared.rows.Version.TheVariants as version
@@ -171,11 +174,37 @@ more_line (LaidOut n l) next rows w (a, b, c, s, va, hb, lc) e =
 more_line (Rows h) next rows w s e = more_row h.irqs h.tasks h next rows w refl s e
 more_line (Whole h) next rows w s e = absurd cc
 
+-- what is cut off a text is a line
+abbrev IsCutLine : ℕ → LineCut → Type 0
+IsCutLine room (Line w rest) = (length w < room) × All (λ b. b ≢ 10) w
+IsCutLine room Long = Unit {0}
+IsCutLine room Open = Unit {0}
+
+cut_longer : (b room : ℕ) (c : LineCut) → eqb b 10 ≡ false → IsCutLine room c → IsCutLine (suc room) (put_front b c)
+cut_longer b room (Line w rest) e h = (omega (arith, h.0), All-cons (λ c. c ≢ 10) b w (eqb-false b 10 e) h.1)
+cut_longer b room Long e h = tt
+cut_longer b room Open e h = tt
+
+cut_by : (t : Bool) (b room : ℕ) (text : List ℕ) → eqb b 10 ≡ t → IsCutLine room (line_within room text)
+    → IsCutLine (suc room) (if t then Line [] text else put_front b (line_within room text))
+cut_by true b room text e h = (omega arith, All-nil (λ c. c ≢ 10))
+cut_by false b room text e h = cut_longer b room (line_within room text) e h
+
+cut_is_line : (room : ℕ) (text : List ℕ) → IsCutLine room (line_within room text)
+unfolding line_within
+cut_is_line zero text = tt
+cut_is_line (suc room) [] = tt
+cut_is_line (suc room) (b ∷ text) = cut_by (eqb b 10) b room text refl (cut_is_line room text)
+
+is_line : (text w rest : List ℕ) → line_at text ≡ Line w rest → IsLine w
+is_line text w rest e = let cut = subst (IsCutLine 256) e (cut_is_line 256 text) in record { few = cut.0; no_feed = cut.1 }
+
 -- the first lines of a text
 record FirstLines (n : ℕ) (t : List ℕ) (lines : HeaderLines) (rest : List ℕ) : Type 0 where
   rows : List (List ℕ)
   text_is : t ≡ spelled rows ++ rest
   count : length rows ≡ n
+  are_lines : All IsLine rows
   are : SoFar lines rows
 
 spelled_more : (rows : List (List ℕ)) (w rest : List ℕ) → spelled (rows ++ w ∷ []) ++ rest ≡ spelled rows ++ (w ++ 10 ∷ rest)
@@ -185,20 +214,21 @@ spelled_more rows w rest =
     ∙ append_assoc (spelled rows) (w ++ lf) rest
     ∙ ap (λ (r : List ℕ). spelled rows ++ r) (append_assoc w lf rest)
 
-row_more : (n : ℕ) (t w r rest : List ℕ) (q next : HeaderLines) (s : List ℕ) (answer : Result HeaderLines Reason) → FirstLines n t q s → s ≡ w ++ 10 ∷ r → with_line q w ≡ answer
+row_more : (n : ℕ) (t w r rest : List ℕ) (q next : HeaderLines) (s : List ℕ) (answer : Result HeaderLines Reason) → FirstLines n t q s → s ≡ w ++ 10 ∷ r → IsLine w → with_line q w ≡ answer
     → row_cut (suc n) r answer ≡ Ok (next, rest) → FirstLines (suc n) t next rest
-row_more n t w r rest q next s (Ok p) f lone is e =
+row_more n t w r rest q next s (Ok p) f lone line is e =
     let both = parts p next r rest e in
     record {
       rows = f.rows ++ w ∷ [];
       text_is = f.text_is ∙ ap (λ (u : List ℕ). spelled f.rows ++ u) (lone ∙ ap (λ (u : List ℕ). w ++ 10 ∷ u) both.1) ∙ sym (spelled_more f.rows w rest);
       count = omega (arith, length-append f.rows (w ∷ []), f.count);
+      are_lines = All-append IsLine f.rows (w ∷ []) f.are_lines (All-cons IsLine w [] line (All-nil IsLine));
       are = subst (λ (l : HeaderLines). SoFar l (f.rows ++ w ∷ [])) both.0 (more_line q p f.rows w f.are is);
     }
-row_more n t w r rest q next s (Err why) f lone is e = absurd cc
+row_more n t w r rest q next s (Err why) f lone line is e = absurd cc
 
 cut_more : (n : ℕ) (t rest : List ℕ) (q next : HeaderLines) (s : List ℕ) (c : LineCut) → FirstLines n t q s → line_at s ≡ c → header_cut (suc n) q c ≡ Ok (next, rest) → FirstLines (suc n) t next rest
-cut_more n t rest q next s (Line w r) f is e = row_more n t w r rest q next s (with_line q w) f (line_lone s w r is).0 refl e
+cut_more n t rest q next s (Line w r) f is e = row_more n t w r rest q next s (with_line q w) f (line_lone s w r is).0 (is_line s w r is) refl e
 cut_more n t rest q next s Long f is e = absurd cc
 cut_more n t rest q next s Open f is e = absurd cc
 
@@ -211,10 +241,10 @@ first_lines : (n : ℕ) (t rest : List ℕ) (lines : HeaderLines) → after n t 
 unfolding after
 first_lines zero t rest lines e =
     let both = parts NoLine lines t rest e in
-    record { rows = []; text_is = both.1; count = refl; are = subst (λ (l : HeaderLines). SoFar l []) both.0 refl }
+    record { rows = []; text_is = both.1; count = refl; are_lines = All-nil IsLine; are = subst (λ (l : HeaderLines). SoFar l []) both.0 refl }
 first_lines (suc n) t rest lines e = first_by n t rest lines (after n t) (λ q s f. first_lines n t s q f) e
 
 pub grammatical : (text rest : List ℕ) (lines : ℕ) (h : Header) → HasHeader text lines h rest → IsGrammatical text lines h rest
 grammatical text rest lines h has =
     let f = first_lines lines text rest (Whole h) has.reads in
-    record { rows = f.rows; text_is = f.text_is; count = f.count; are = f.are }
+    record { rows = f.rows; text_is = f.text_is; count = f.count; are_lines = f.are_lines; are = f.are }

@@ -12,3 +12,4 @@ pub mod FrontLaws
 pub mod JoinLaws
 pub mod FollowLaws
 pub mod GrammarLaws
+pub mod GrammarSteps

@@ -1,7 +1,8 @@
 -- The header by its grammar: the lines that a whole header is made of, and what they say.
-use Rattle.std.specs.Prelude.{◌≡◌, ℕ, true, List, [], ◌∷◌, ◌++◌, map, length, Result, Ok, codes}
-use Rattle.std.specs.List.{flat_map}
-use Rattle.sched_text.specs.Rows.{◌>>=◌, has_form, version_of, harts_of, layout_of, branch_of, task_of, irq_of}
+use Rattle.std.specs.Prelude.{◌≡◌, ◌≢◌, ℕ, ◌<◌, true, List, [], ◌∷◌, ◌++◌, map, length, Result, Ok, codes}
+use Rattle.std.specs.List.{All, flat_map}
+use Rattle.sched_text.specs.Rows.{◌>>=◌, has_form, version_of, harts_of, layout_of, branch_of}
+use Rattle.sched_text.specs.Rows.{task_of, irq_of}
 use Rattle.sched_text.specs.Header.{irq_line}
 use Rattle.sched_text.specs.declared.rows.Version.{Version}
 use Rattle.sched_text.specs.declared.rows.Version.TheVariants as version
@@ -9,6 +10,12 @@ use Rattle.sched_text.specs.declared.schedule.Header.{Header}
 use Rattle.sched_text.specs.declared.schedule.TaskLine.{TaskLine}
 use Rattle.sched_text.specs.declared.schedule.IrqLine.{IrqLine}
 use Rattle.sched_text.specs.declared.faults.Reason.{Reason}
+use Rattle.sched_text.specs.declared.limits.TheConstants.{LINE_LIMIT}
+
+-- a line: fewer than 256 bytes, and no line feed among them
+pub record IsLine (row : List ℕ) : Type 0 where
+  pub few : length row < LINE_LIMIT
+  pub no_feed : All (λ b. b ≢ 10) row
 
 -- some lines, each with its line feed
 abbrev pub spelled : List (List ℕ) → List ℕ
@@ -67,4 +74,5 @@ pub record IsGrammatical (text : List ℕ) (lines : ℕ) (h : Header) (rest : Li
   pub rows : List (List ℕ)
   pub text_is : text ≡ spelled rows ++ rest
   pub count : length rows ≡ lines
+  pub are_lines : All IsLine rows
   pub are : AreHeaderRows rows h

@@ -1,10 +1,13 @@
 -- The header: the lines up to `images`, and the first of them that is refused.
-use Rattle.std.specs.Prelude.{◌≡◌, ℕ, zero, suc, ◌+◌, ◌≤◌, if◌then◌else◌, nat_lt, Bool, true, false, List, [], ◌∷◌, ◌++◌, length, Option, Some, None, Result, Ok, Err, codes, ⊤}
+use Rattle.std.specs.Prelude.{◌≡◌, ℕ, zero, suc, ◌+◌, ◌≤◌, if◌then◌else◌, nat_lt, Bool, true, false}
+use Rattle.std.specs.Prelude.{List, [], ◌∷◌, ◌++◌, length, Option, Some, None, Result, Ok, Err}
+use Rattle.std.specs.Prelude.{codes, ⊤}
 use Rattle.std.specs.List.{All}
 use Rattle.ctr_port.specs.InHand.{Of}
 use Rattle.perf_sample.specs.Layout.{IsLayout, IsBranchWord}
 use Rattle.sched_text.specs.Lines.{LineCut, Line, Long, Open, line_at}
-use Rattle.sched_text.specs.Rows.{◌>>=◌, has_form, version_of, harts_of, layout_of, branch_of, task_of, irq_of, IsTask}
+use Rattle.sched_text.specs.Rows.{◌>>=◌, has_form, version_of, harts_of, layout_of, branch_of}
+use Rattle.sched_text.specs.Rows.{task_of, irq_of, IsTask}
 use Rattle.sched_text.specs.Irqs.{irq_refusal, IsIrq, AllFollow}
 use Rattle.sched_text.specs.declared.rows.IrqWords.{IrqWords}
 use Rattle.sched_text.specs.declared.rows.Version.{Version}

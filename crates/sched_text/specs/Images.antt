@@ -1,5 +1,6 @@
 -- The images, which follow the line `images` at once.
-use Rattle.std.specs.Prelude.{◌≡◌, ℕ, ◌<◌, if◌then◌else◌, nat_lt, List, [], length, take, drop, Option, Result, Ok, Err, ⊤}
+use Rattle.std.specs.Prelude.{◌≡◌, ℕ, ◌<◌, if◌then◌else◌, nat_lt, List, [], length, take, drop}
+use Rattle.std.specs.Prelude.{Option, Result, Ok, Err, ⊤}
 use Rattle.ctr_port.specs.InHand.{Of}
 use Rattle.sched_text.specs.Header.{refuse}
 use Rattle.sched_text.specs.declared.faults.Reason.TheVariants as reason

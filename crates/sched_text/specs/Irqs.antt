@@ -1,5 +1,6 @@
 -- Which irq lines may follow others.
-use Rattle.std.specs.Prelude.{◌≡◌, ℕ, ◌<◌, ◌≤◌, ◌&&◌, ◌||◌, if◌then◌else◌, nat_eq, nat_lt, nat_le, Bool, List, [], ◌∷◌, ◌++◌, length, true, Option, Some, None, ⊤}
+use Rattle.std.specs.Prelude.{◌≡◌, ℕ, ◌<◌, ◌≤◌, ◌&&◌, ◌||◌, if◌then◌else◌, nat_eq, nat_lt, nat_le}
+use Rattle.std.specs.Prelude.{Bool, List, [], ◌∷◌, ◌++◌, length, true, Option, Some, None, ⊤}
 use Rattle.std.specs.List.{fold, filter}
 use Rattle.sched_text.specs.Rows.{is_cause}
 use Rattle.sched_text.specs.declared.schedule.IrqLine.{IrqLine}

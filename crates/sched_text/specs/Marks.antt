@@ -1,5 +1,6 @@
 -- What the reader keeps of the irq lines: a mark for each task.
-use Rattle.std.specs.Prelude.{◌≡◌, ℕ, ◌+◌, ◌<◌, ◌≤◌, ◌&&◌, ◌||◌, if◌then◌else◌, nat_eq, nat_lt, nat_le, List, length, get_or, Option, Some, None}
+use Rattle.std.specs.Prelude.{◌≡◌, ℕ, ◌+◌, ◌<◌, ◌≤◌, ◌&&◌, ◌||◌, if◌then◌else◌, nat_eq, nat_lt}
+use Rattle.std.specs.Prelude.{nat_le, List, length, get_or, Option, Some, None}
 use Rattle.std.specs.List.{fold, sum_by, All}
 use Rattle.sched_text.specs.declared.irqs.Mark.{Mark}
 use Rattle.sched_text.specs.declared.schedule.IrqLine.{IrqLine}

@@ -1,5 +1,6 @@
 -- What reading a whole schedule comes to.
-use Rattle.std.specs.Prelude.{◌≡◌, ◌⊎◌, ℕ, ◌+◌, ◌<◌, ◌≤◌, List, [], ◌++◌, length, take, drop, Option, Some, None, Result, Ok, Err, ⊤, Bool, true, false}
+use Rattle.std.specs.Prelude.{◌≡◌, ◌⊎◌, ℕ, ◌+◌, ◌<◌, ◌≤◌, List, [], ◌++◌, length, take, drop}
+use Rattle.std.specs.Prelude.{Option, Some, None, Result, Ok, Err, ⊤, Bool, true, false}
 use Rattle.std.specs.List.{sum_by}
 use Rattle.ctr_port.specs.InHand.{Of}
 use Rattle.sched_text.specs.Lines.{Open, line_at}

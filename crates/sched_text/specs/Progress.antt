@@ -1,13 +1,16 @@
 -- What the code keeps of the lines of a header: the place of the next one, with numbers in the
 -- fields whose lines haven't come.
-use Rattle.std.specs.Prelude.{◌≡◌, ℕ, ◌+◌, ◌<◌, ◌≤◌, if◌then◌else◌, nat_lt, Bool, true, false, List, [], ◌∷◌, ◌++◌, length, Option, Some, None, Result, Ok, Err, codes, ⊤}
+use Rattle.std.specs.Prelude.{◌≡◌, ℕ, ◌+◌, ◌<◌, ◌≤◌, if◌then◌else◌, nat_lt, Bool, true, false, List}
+use Rattle.std.specs.Prelude.{[], ◌∷◌, ◌++◌, length, Option, Some, None, Result, Ok, Err, codes, ⊤}
 use Rattle.std.specs.List.{All}
 use Rattle.ctr_port.specs.InHand.{Of}
 use Rattle.perf_sample.specs.Layout.{IsLayout, IsBranchWord}
 use Rattle.sched_text.specs.Lines.{LineCut, Line, Long, Open, line_at}
-use Rattle.sched_text.specs.Rows.{◌>>=◌, has_form, version_of, harts_of, layout_of, branch_of, task_of, irq_of, IsTask}
+use Rattle.sched_text.specs.Rows.{◌>>=◌, has_form, version_of, harts_of, layout_of, branch_of}
+use Rattle.sched_text.specs.Rows.{task_of, irq_of, IsTask}
 use Rattle.sched_text.specs.Irqs.{irq_refusal, IsIrq, AllFollow}
-use Rattle.sched_text.specs.Header.{HeaderLines, NoLine, Versioned, Counted, LaidOut, Rows, Whole, irq_line, refuse, row_cut}
+use Rattle.sched_text.specs.Header.{HeaderLines, NoLine, Versioned, Counted, LaidOut, Rows, Whole}
+use Rattle.sched_text.specs.Header.{irq_line, refuse, row_cut}
 use Rattle.sched_text.specs.declared.progress.Place.{Place}
 use Rattle.sched_text.specs.declared.progress.Place.TheVariants as place
 use Rattle.sched_text.specs.declared.progress.Progress.{Progress}

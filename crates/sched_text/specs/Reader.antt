@@ -1,5 +1,6 @@
 -- What contracts see of a reader, and what its calls say.
-use Rattle.std.specs.Prelude.{◌≡◌, ◌⊎◌, ℕ, ◌+◌, if◌then◌else◌, List, [], Bool, false, Option, Some, None, Result, Ok, Err}
+use Rattle.std.specs.Prelude.{◌≡◌, ◌⊎◌, ℕ, ◌+◌, if◌then◌else◌, List, [], Bool, false, Option, Some}
+use Rattle.std.specs.Prelude.{None, Result, Ok, Err}
 use Rattle.ctr_port.specs.InHand.{Of}
 use Rattle.sched_text.specs.Lines.{LineCut, Line, Long, Open, line_at}
 use Rattle.sched_text.specs.Rows.{command_of}

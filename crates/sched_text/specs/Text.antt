@@ -1,5 +1,6 @@
 -- The whole text: where it breaks first.
-use Rattle.std.specs.Prelude.{◌≡◌, ◌⊎◌, ℕ, ◌+◌, ◌<◌, ◌≤◌, Bool, true, false, List, length, take, drop, Ok, Err}
+use Rattle.std.specs.Prelude.{◌≡◌, ◌⊎◌, ℕ, ◌+◌, ◌<◌, ◌≤◌, Bool, true, false, List, length, take}
+use Rattle.std.specs.Prelude.{drop, Ok, Err}
 use Rattle.std.specs.List.{sum_by, list_any}
 use Rattle.sched_text.specs.Header.{HasHeader, HeaderBreak}
 use Rattle.sched_text.specs.Commands.{is_end, command_at, commands_after}

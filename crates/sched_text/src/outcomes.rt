@@ -6,7 +6,9 @@ ghost use Rattle.sched_text.specs.Causes.{is_read};
 ghost use Rattle.ctr_port.specs.Counts.{HasCause};
 ghost use Rattle.ctr_port.specs.InHand.{text_of};
 ghost use Rattle.sched_text.specs.Reader.{refusal_of};
-ghost use Rattle.sched_text.specs.Outcomes.{TextOutcome, ImagesAnswer, CommandsAnswer, total, SomeCommandsAnswer, LineOutcome, TaskImageAnswer, ImageOutcome};
+ghost use Rattle.sched_text.specs.Outcomes.{TextOutcome, ImagesAnswer, CommandsAnswer, total};
+ghost use Rattle.sched_text.specs.Outcomes.{SomeCommandsAnswer, LineOutcome, TaskImageAnswer};
+ghost use Rattle.sched_text.specs.Outcomes.{ImageOutcome};
 
 use crate::commands::is_end;
 use crate::faults::ScheduleFault;
@@ -57,7 +59,7 @@ fn images<S: Source>(
 fn commands<S: Source>(reader: &mut ScheduleReader, source: &mut S) -> Result<(), ScheduleFault>
     requires open { (reader.old.refused ≡ None) × (reader.old.ended ≡ false)
         × (reader.old.commands ≡ 0) }
-    ensures listened { CommandsAnswer reader.old.line (text_of reader.old.hand (S.left source.old))
+    ensures answer { CommandsAnswer reader.old.line (text_of reader.old.hand (S.left source.old))
         (text_of reader.new.hand (S.left source.new)) reader.new.hand result }
     ensures cause { HasCause is_read (S.faults source.old) (S.faults source.new) result }
 {
@@ -104,7 +106,7 @@ fn some_commands<S: Source>(
     requires open { (reader.old.refused ≡ None) × (reader.old.ended ≡ false)
         × (reader.old.commands ≡ 0) }
     requires some { 0 < most }
-    ensures halts { SomeCommandsAnswer reader.old.line most
+    ensures answer { SomeCommandsAnswer reader.old.line most
         (text_of reader.old.hand (S.left source.old))
         (text_of reader.new.hand (S.left source.new)) reader.new.hand reader.new.line result }
     ensures cause { HasCause is_read (S.faults source.old) (S.faults source.new) result }
@@ -150,7 +152,7 @@ fn one_image<S: Source>(
     which: usize,
 ) -> Result<Option<Image>, ScheduleFault>
     requires open { reader.old.refused ≡ None }
-    ensures pictured { TaskImageAnswer reader.old.line tasks.now which
+    ensures answer { TaskImageAnswer reader.old.line tasks.now which
         (text_of reader.old.hand (S.left source.old))
         (text_of reader.new.hand (S.left source.new)) reader.new.hand result }
     ensures cause { HasCause is_read (S.faults source.old) (S.faults source.new) result }

@@ -1,7 +1,9 @@
 //! The lines up to `images`, one by one: what is kept of them.
 
 ghost use Rattle.std.specs.Prelude.{◌≡◌, ◌+◌, ◌<◌, ◌≤◌, [], length, IfOk};
-ghost use Rattle.sched_text.specs.Progress.{step, after_layout, task_step, irq_step, after_irq_step, after_task_step, Stepped, lines_before, lines_of, Sound, start};
+ghost use Rattle.sched_text.specs.Progress.{step, after_layout, task_step, irq_step};
+ghost use Rattle.sched_text.specs.Progress.{after_irq_step, after_task_step, Stepped, lines_before};
+ghost use Rattle.sched_text.specs.Progress.{lines_of, Sound, start};
 
 use crate::faults::Reason;
 use crate::irqs::Irqs;

@@ -8,7 +8,8 @@ ghost use Rattle.sched_text.specs.Commands.{command_at, needs_read};
 ghost use Rattle.sched_text.specs.Header.{HeaderAnswer, IsHeader};
 ghost use Rattle.sched_text.specs.Images.{ImageAnswer};
 ghost use Rattle.sched_text.specs.Rows.{IsCommand};
-ghost use Rattle.sched_text.specs.Reader.{fresh, CommandAnswer, widened, refusal, refusal_of, counted, ends_now};
+ghost use Rattle.sched_text.specs.Reader.{fresh, CommandAnswer, widened, refusal, refusal_of};
+ghost use Rattle.sched_text.specs.Reader.{counted, ends_now};
 
 use crate::commands::{is_end, next_command};
 use crate::faults::{CommandFault, ScheduleFault};
@@ -37,7 +38,8 @@ pub struct ScheduleReader {
 impl Model for ScheduleReader {
     ghost use Rattle.std.specs.Prelude.{◌≡◌, ◌≤◌, ◌+◌, None, false, length};
     ghost use Rattle.sched_text.specs.Reader.{Reader};
-    ghost use Rattle.sched_text.specs.declared.limits.TheConstants.{WINDOW, HEADER_LINES, MOST_COMMANDS};
+    ghost use Rattle.sched_text.specs.declared.limits.TheConstants.{WINDOW, HEADER_LINES};
+    ghost use Rattle.sched_text.specs.declared.limits.TheConstants.{MOST_COMMANDS};
 
     ghost Value = { Reader };
 

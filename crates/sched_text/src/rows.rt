@@ -2,7 +2,9 @@
 
 ghost use Rattle.std.specs.Prelude.{◌≡◌, ◌<◌, ◌≤◌, length, drop, true, IfOk};
 ghost use Rattle.sched_text.specs.Lines.{words};
-ghost use Rattle.sched_text.specs.Rows.{has_form, decimal, number_of, hexadecimal, version_of, harts_of, layout_of, branch_of, task_numbers, task_of, IsTask, irq_of, is_cause, run_of, IsCommand, command_of};
+ghost use Rattle.sched_text.specs.Rows.{has_form, decimal, number_of, hexadecimal, version_of};
+ghost use Rattle.sched_text.specs.Rows.{harts_of, layout_of, branch_of, task_numbers, task_of};
+ghost use Rattle.sched_text.specs.Rows.{IsTask, irq_of, is_cause, run_of, IsCommand, command_of};
 ghost use Rattle.perf_sample.specs.Layout.{IsLayout, IsBranchWord};
 ghost use Rattle.sched_text.specs.Numbers.{kept};
 

@@ -42,4 +42,4 @@ returns-clause-outcome g c =
     (opened line h (text_of [] left) first mid
     (subst (λ (r : Reader). Of (text_of r.hand left) first (Begun line h)) c.new-reader.ensures c.in_ok-header.ensures.heads)
     (subst (λ (ts : List TaskLine). Of first mid (IsBehind (total ts))) c.items.ensures c.in_ok-images.ensures.passed))
-    (subst (λ (k : ℕ). CommandsAnswer k mid (text_of hand left') hand c.commands.result) c.in_ok-images.ensures.same.0 c.commands.ensures.listened)
+    (subst (λ (k : ℕ). CommandsAnswer k mid (text_of hand left') hand c.commands.result) c.in_ok-images.ensures.same.0 c.commands.ensures.answer)

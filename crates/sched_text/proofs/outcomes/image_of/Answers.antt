@@ -26,4 +26,4 @@ returns-clause-outcome g c =
     let hand = c.one_image.new.reader.hand in
     image_so c.one_image.result line c.args.which h hand left mid left'
     (subst (λ (r : Reader). Of (text_of r.hand left) mid (Begun line h)) c.new-reader.ensures c.in_ok-header.ensures.heads)
-    (subst (λ (ts : List TaskLine). TaskImageAnswer line ts c.args.which mid (text_of hand left') hand c.one_image.result) c.items.ensures c.one_image.ensures.pictured)
+    (subst (λ (ts : List TaskLine). TaskImageAnswer line ts c.args.which mid (text_of hand left') hand c.one_image.result) c.items.ensures c.one_image.ensures.answer)

@@ -43,7 +43,7 @@ returns-in_err-ended-clause-outcome g c =
     (opened line h (text_of [] left) first mid
     (subst (λ (r : Reader). Of (text_of r.hand left) first (Begun line h)) c.new-reader.ensures c.in_ok-header.ensures.heads)
     (subst (λ (ts : List TaskLine). Of first mid (IsBehind (total ts))) c.items.ensures c.in_ok-images.ensures.passed))
-    (subst (λ (k : ℕ). CommandsAnswer k mid (text_of hand left') hand (Err c.in_err-ended.field-0.0)) c.in_ok-images.ensures.same.0 c.in_err-ended.ensures.halts))
+    (subst (λ (k : ℕ). CommandsAnswer k mid (text_of hand left') hand (Err c.in_err-ended.field-0.0)) c.in_ok-images.ensures.same.0 c.in_err-ended.ensures.answer))
 
 pub returns-then-ended-clause-outcome : goal.returns-then-ended-clause-outcome
 returns-then-ended-clause-outcome g c =
@@ -59,7 +59,7 @@ returns-then-ended-clause-outcome g c =
     (subst (λ (r : Reader). Of (text_of r.hand left) first (Begun line h)) c.new-reader.ensures c.in_ok-header.ensures.heads)
     (subst (λ (ts : List TaskLine). Of first mid (IsBehind (total ts))) c.items.ensures c.in_ok-images.ensures.passed))
     (subst (λ (k : ℕ). SomeCommandsAnswer k c.args.most mid (text_of hand left') hand c.some_commands.new.reader.line (Ok true)) c.in_ok-images.ensures.same.0
-    (subst (λ (b : Bool). SomeCommandsAnswer c.images.new.reader.line c.args.most mid (text_of hand left') hand c.some_commands.new.reader.line (Ok b)) c.if-ended.true c.in_ok-ended.ensures.halts))
+    (subst (λ (b : Bool). SomeCommandsAnswer c.images.new.reader.line c.args.most mid (text_of hand left') hand c.some_commands.new.reader.line (Ok b)) c.if-ended.true c.in_ok-ended.ensures.answer))
 
 pub returns-clause-outcome : goal.returns-clause-outcome
 returns-clause-outcome g c =
@@ -76,4 +76,4 @@ returns-clause-outcome g c =
     (subst (λ (r : Reader). Of (text_of r.hand left) first (Begun line h)) c.new-reader.ensures c.in_ok-header.ensures.heads)
     (subst (λ (ts : List TaskLine). Of first mid (IsBehind (total ts))) c.items.ensures c.in_ok-images.ensures.passed))
     (subst (λ (k : ℕ). SomeCommandsAnswer k c.args.most mid (text_of hand left') hand c.some_commands.new.reader.line (Ok false)) c.in_ok-images.ensures.same.0
-    (subst (λ (b : Bool). SomeCommandsAnswer c.images.new.reader.line c.args.most mid (text_of hand left') hand c.some_commands.new.reader.line (Ok b)) c.if-ended.false c.in_ok-ended.ensures.halts)))
+    (subst (λ (b : Bool). SomeCommandsAnswer c.images.new.reader.line c.args.most mid (text_of hand left') hand c.some_commands.new.reader.line (Ok b)) c.if-ended.false c.in_ok-ended.ensures.answer)))

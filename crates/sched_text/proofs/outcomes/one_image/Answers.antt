@@ -5,8 +5,8 @@ use Rattle.sched_text.specs.Outcomes.{total, IsImage}
 use Rattle.sched_text.proofs.JoinLaws.{stops_short, fits_in, image_is}
 use Rattle.sched_text.proofs.outcomes.one_image.Goals as goal
 
-pub returns-in_err-image-clause-pictured : goal.returns-in_err-image-clause-pictured
-returns-in_err-image-clause-pictured g c =
+pub returns-in_err-image-clause-answer : goal.returns-in_err-image-clause-answer
+returns-in_err-image-clause-answer g c =
     let inv = c.loop-task.invariant in
     let tasks = c.args.tasks.now in
     let i = c.loop-task.task-index in
@@ -15,8 +15,8 @@ returns-in_err-image-clause-pictured g c =
     (text_of c.args.reader.now.hand (g.S.Source.left c.args.source.now)) (text_of c.loop-task.reader.hand (g.S.Source.left c.loop-task.source)) (text_of c.image.new.self.hand (g.S.Source.left c.image.new.source))
     c.image.new.self.hand inv.line (fits_in tasks i _ c.loop-task-test.true) inv.passed (c.in_err-image.ensures.images inv.open_))
 
-pub returns-then-at-which-clause-pictured : goal.returns-then-at-which-clause-pictured
-returns-then-at-which-clause-pictured g c =
+pub returns-then-at-which-clause-answer : goal.returns-then-at-which-clause-answer
+returns-then-at-which-clause-answer g c =
     let inv = c.loop-task.invariant in
     let tasks = c.args.tasks.now in
     let x = text_of c.args.reader.now.hand (g.S.Source.left c.args.source.now) in

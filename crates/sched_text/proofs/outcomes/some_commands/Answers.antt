@@ -43,8 +43,8 @@ loop-command-preserved g c =
       later = omega (arith, inv.later, c.in-Ok.ensures.cause inv.open_);
     }
 
-pub returns-then-count-most-clause-halts : goal.returns-then-count-most-clause-halts
-returns-then-count-most-clause-halts g c =
+pub returns-then-count-most-clause-answer : goal.returns-then-count-most-clause-answer
+returns-then-count-most-clause-answer g c =
     let inv = c.loop-command.invariant in
     let n = c.loop-command.reader.commands in
     let lines = c.args.reader.now.line in
