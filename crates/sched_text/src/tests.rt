@@ -35,6 +35,23 @@ const COMMANDS: &str = "run 0 0 1\nsample 0\nend\n";
 const SCHEDULE: &str =
     "ctr-schedule 1\nharts 1\nlayout 803\ntask 4 8 0 4 0 0\nimages\nabcdrun 0 0 1\nsample 0\nend\n";
 
+// A schedule with a line of each kind, two tasks and two images: 146 bytes, whose lines end with
+// bytes 15, 23, 34, 47, 64, 81, 91, 102, 109, 125, 133, 142 and 146; the images end with bytes 113
+// and 115.
+const EVERY_LINE: &str = "ctr-schedule 2\n\
+harts 2\n\
+layout 803\n\
+branch 20000\n\
+task 4 8 0 4 0 0\n\
+task 2 8 0 4 0 0\n\
+irq 0 5 3\n\
+irq 1 5 13\n\
+images\n\
+abcdefrun 0 0 1\n\
+evict 0\n\
+sample 1\n\
+end\n";
+
 // What the calls of a reader answered, up to `end` or the refusal.
 #[derive(Drop)]
 struct Answers {

@@ -1,7 +1,7 @@
 ghost use Rattle.std.specs.Prelude.{◌≡◌, Some};
 ghost use Rattle.sched_text.specs.Reader.{widened};
 
-use super::{Answers, SCHEDULE, START, TASK, joined, read_all, repeat, widen};
+use super::{Answers, EVERY_LINE, SCHEDULE, START, TASK, joined, read_all, repeat, widen};
 use crate::{CommandFault, LineFault, Reason, ScheduleFault, ScheduleReader};
 use ctr_port::{Got, MemSource, Source};
 use std::alloc::Global;
@@ -155,8 +155,12 @@ fn a_long_line_is_told_again_without_a_read(rt: HostRuntime) -> Result<(), Fail>
 
 // A read of one byte that fails, and the call after it, which nobody makes while the reader is
 // asked again.
-fn failed_read_is_told_again(rt: &impl Abort, alloc: Global, read: usize) -> Result<(), Fail> {
-    let text = SCHEDULE.as_bytes();
+fn failed_read_is_told_again(
+    rt: &impl Abort,
+    alloc: Global,
+    text: &[u8],
+    read: usize,
+) -> Result<(), Fail> {
     let call = read as u64;
     let mut source = MemSource::new(alloc, text, &[1], &[call, call.saturating_add(1)])?;
     let left = text.get(read..).ok_or("the bytes left")?;
@@ -165,51 +169,80 @@ fn failed_read_is_told_again(rt: &impl Abort, alloc: Global, read: usize) -> Res
 
 #[test]
 fn a_failed_read_is_told_again_without_a_read(rt: HostRuntime) -> Result<(), Fail> {
-    // 85 bytes in reads of one byte, and one more read that looks past the end.
+    // 85 and 146 bytes in reads of one byte, and one more read that looks past the end.
     for read in 0..86 {
-        failed_read_is_told_again(&rt, rt.alloc(), read)?;
+        failed_read_is_told_again(&rt, rt.alloc(), SCHEDULE.as_bytes(), read)?;
+    }
+    for read in 0..147 {
+        failed_read_is_told_again(&rt, rt.alloc(), EVERY_LINE.as_bytes(), read)?;
     }
     Ok(())
 }
 
-// The reads of one byte, and the line that each of them belongs to: image bytes to `images`, and
-// the look behind `end` to that line.
+// Reads of one byte, from the first of these on: the line that they belong to, and how many images
+// and commands are answered before one of them fails. Bytes of images belong to the line `images`,
+// and the look behind `end` to that line.
+type Reads = (u64, u64, u32, usize, usize);
+
+const READS: [Reads; 8] = [
+    (0, 15, 1, 0, 0),
+    (15, 23, 2, 0, 0),
+    (23, 34, 3, 0, 0),
+    (34, 51, 4, 0, 0),
+    (51, 62, 5, 0, 0),
+    (62, 72, 6, 1, 0),
+    (72, 81, 7, 1, 1),
+    (81, 86, 8, 1, 2),
+];
+
+const READS_OF_EVERY_LINE: [Reads; 14] = [
+    (0, 15, 1, 0, 0),
+    (15, 23, 2, 0, 0),
+    (23, 34, 3, 0, 0),
+    (34, 47, 4, 0, 0), // branch
+    (47, 64, 5, 0, 0),
+    (64, 81, 6, 0, 0),
+    (81, 91, 7, 0, 0), // irq
+    (91, 102, 8, 0, 0),
+    (102, 113, 9, 0, 0), // images, and the first of them
+    (113, 115, 9, 1, 0), // the second
+    (115, 125, 10, 2, 0),
+    (125, 133, 11, 2, 1), // evict
+    (133, 142, 12, 2, 2),
+    (142, 147, 13, 2, 3),
+];
+
+fn reads_fail(rt: &impl Abort, alloc: Global, text: &[u8], reads: &Reads) -> Result<(), Fail> {
+    for call in reads.0..reads.1 {
+        let mut source = MemSource::new(alloc, text, &[1], &[call])?;
+        let mut reader = ScheduleReader::new();
+        let answers = read_all(alloc, &mut reader, &mut source)?;
+        assert_eq!(rt; answers.fault, Some(ScheduleFault::ReadFault), "at {call}");
+        assert_eq!(rt; reader.line(), reads.2, "at {call}");
+        assert_eq!(rt; answers.images.len(), reads.3, "images at {call}");
+        assert_eq!(rt; answers.commands.len(), reads.4, "commands at {call}");
+    }
+    Ok(())
+}
+
 #[test]
 fn a_failed_read_is_answered_in_its_line(rt: HostRuntime) -> Result<(), Fail> {
-    for (first, end, line) in [
-        (0, 15, 1),
-        (15, 23, 2),
-        (23, 34, 3),
-        (34, 51, 4),
-        (51, 62, 5),
-        (62, 72, 6),
-        (72, 81, 7),
-        (81, 86, 8),
-    ] {
-        for call in first..end {
-            let mut source = MemSource::new(rt.alloc(), SCHEDULE.as_bytes(), &[1], &[call])?;
-            let mut reader = ScheduleReader::new();
-            let answers = read_all(rt.alloc(), &mut reader, &mut source)?;
-            assert_eq!(rt; answers.fault, Some(ScheduleFault::ReadFault), "at {call}");
-            assert_eq!(rt; reader.line(), line, "at {call}");
-        }
+    for reads in &READS {
+        reads_fail(&rt, rt.alloc(), SCHEDULE.as_bytes(), reads)?;
+    }
+    for reads in &READS_OF_EVERY_LINE {
+        reads_fail(&rt, rt.alloc(), EVERY_LINE.as_bytes(), reads)?;
     }
     Ok(())
 }
 
-// The commands that are answered before the read that fails.
 #[test]
-fn the_commands_before_a_failed_read_are_answered(rt: HostRuntime) -> Result<(), Fail> {
-    // The line `run` ends with byte 72, and `sample` with byte 81.
-    for (first, end, commands) in [(0, 72, 0), (72, 81, 1), (81, 86, 2)] {
-        for call in first..end {
-            let mut source = MemSource::new(rt.alloc(), SCHEDULE.as_bytes(), &[1], &[call])?;
-            let answers = read_all(rt.alloc(), &mut ScheduleReader::new(), &mut source)?;
-            assert_eq!(rt; answers.commands.len(), commands, "at {call}");
-        }
-    }
+fn no_read_is_made_behind_the_end(rt: HostRuntime) -> Result<(), Fail> {
     let mut source = MemSource::new(rt.alloc(), SCHEDULE.as_bytes(), &[1], &[86])?;
     let answers = read_all(rt.alloc(), &mut ScheduleReader::new(), &mut source)?;
-    assert_eq!(rt; answers.fault, None, "no read is made behind the end");
+    assert_eq!(rt; answers.fault, None, "85 bytes, and a look past the end");
+    let mut source = MemSource::new(rt.alloc(), EVERY_LINE.as_bytes(), &[1], &[147])?;
+    let answers = read_all(rt.alloc(), &mut ScheduleReader::new(), &mut source)?;
+    assert_eq!(rt; answers.fault, None, "146 bytes, and a look past the end");
     Ok(())
 }

@@ -1,4 +1,6 @@
-use super::{SCHEDULE, START, joined, refused};
+ghost use Rattle.std.specs.Prelude.{◌<◌};
+
+use super::{EVERY_LINE, SCHEDULE, START, joined, refused};
 use crate::{Image, Reason, ScheduleFault, check_schedule, image_of, line_of_command};
 use ctr_port::MemSource;
 use std::alloc::Global;
@@ -99,4 +101,68 @@ fn each_call_answers_a_read_that_fails(rt: HostRuntime) -> Result<(), Fail> {
         assert_eq!(rt; fault, failed.filter(|_| call < 62), "an image at {call}");
     }
     Ok(())
+}
+
+// Looks for a command of the schedule with a line of each kind in so many reads of one byte, and
+// finds it in this line; each of these reads fails in turn.
+fn command_is_found_in(
+    rt: &impl Abort,
+    alloc: Global,
+    which: u32,
+    reads: u64,
+    line: Option<u32>,
+) -> Result<(), Fail>
+    requires { 0 < which }
+{
+    for call in 0..148 {
+        let mut source = MemSource::new(alloc, EVERY_LINE.as_bytes(), &[1], &[call])?;
+        let found = line_of_command(alloc, &mut source, which);
+        let wanted = if call < reads {
+            Err(ScheduleFault::ReadFault)
+        } else {
+            Ok(line)
+        };
+        assert_eq!(rt; found, wanted, "command {which} at {call}");
+    }
+    Ok(())
+}
+
+// The same of an image; whether there is one.
+fn image_is_found_in(
+    rt: &impl Abort,
+    alloc: Global,
+    which: usize,
+    reads: u64,
+    is_there: bool,
+) -> Result<(), Fail> {
+    for call in 0..148 {
+        let mut source = MemSource::new(alloc, EVERY_LINE.as_bytes(), &[1], &[call])?;
+        let found = image_of(alloc, &mut source, which).map(|image| image.is_some());
+        let wanted = if call < reads {
+            Err(ScheduleFault::ReadFault)
+        } else {
+            Ok(is_there)
+        };
+        assert_eq!(rt; found, wanted, "image {which} at {call}");
+    }
+    Ok(())
+}
+
+// 146 bytes, and one more read that looks past `end`. A fourth command and a third image aren't
+// there.
+#[test]
+fn each_call_answers_a_read_that_fails_in_any_line(rt: HostRuntime) -> Result<(), Fail> {
+    let failed = Some(ScheduleFault::ReadFault);
+    for call in 0..148 {
+        let mut source = MemSource::new(rt.alloc(), EVERY_LINE.as_bytes(), &[1], &[call])?;
+        let fault = check_schedule(rt.alloc(), &mut source).err();
+        assert_eq!(rt; fault, failed.filter(|_| call < 147), "the whole at {call}");
+    }
+    command_is_found_in(&rt, rt.alloc(), 1, 125, Some(10))?;
+    command_is_found_in(&rt, rt.alloc(), 2, 133, Some(11))?;
+    command_is_found_in(&rt, rt.alloc(), 3, 142, Some(12))?;
+    command_is_found_in(&rt, rt.alloc(), 4, 147, None)?;
+    image_is_found_in(&rt, rt.alloc(), 0, 113, true)?;
+    image_is_found_in(&rt, rt.alloc(), 1, 115, true)?;
+    image_is_found_in(&rt, rt.alloc(), 2, 115, false)
 }
