@@ -151,7 +151,8 @@ const TASKS: &[(&str, (u32, u32, u8, u64, u64, u32))] = &[
         ),
     ),
     (
-        "task 00000000000000000000000 000000000000000000000000004 0000000000000000000004 00000000ffffffffffffffff 000000000000000000000000a 0000000000000000000001000000000\n",
+        "task 00000000000000000000000 000000000000000000000000004 0000000000000000000004 \
+         00000000ffffffffffffffff 000000000000000000000000a 0000000000000000000001000000000\n",
         (0, 4, 4, u64::MAX, 0xA, 1_000_000_000),
     ),
 ];
@@ -227,7 +228,8 @@ fn irq_lines_of_one_task_come_in_order_and_those_of_two_in_any(
             START,
             TASK,
             TASK,
-            "irq 1 7 1\nirq 1 7 2\nirq 1 7 3\nirq 1 7 5\nirq 1 7 6\nirq 1 7 7\nirq 1 7 9\nirq 1 7 10\nirq 1 7 11\nirq 1 7 13\n",
+            "irq 1 7 1\nirq 1 7 2\nirq 1 7 3\nirq 1 7 5\nirq 1 7 6\n\
+             irq 1 7 7\nirq 1 7 9\nirq 1 7 10\nirq 1 7 11\nirq 1 7 13\n",
             "irq 1 8 1\nirq 0 6 3\nirq 0 7 1\nirq 1 1000000000000000 13\nirq 0 7 2\nimages\n",
         ],
     )?;
@@ -377,8 +379,9 @@ fn the_first_and_the_last_numbers_of_a_command_are_taken(rt: HostRuntime) -> Res
 
 #[test]
 fn each_call_answers_what_the_text_says(rt: HostRuntime) -> Result<(), Fail> {
-    let text =
-        "ctr-schedule 01\nharts 2\nlayout 0000000000000000000000883\ntask 2 8 3 aB 2 10\ntask 0 4 0 0 0 0\nirq 0 5 3\nirq 1 5 3\nirq 0 5 13\nimages\n\n\nrun 1 0 1000000000\nsample 18446744073709551616\nevict 99999999999999999999999999999999999999999999\nend\n";
+    let text = "ctr-schedule 01\nharts 2\nlayout 0000000000000000000000883\ntask 2 8 3 aB 2 10\n\
+         task 0 4 0 0 0 0\nirq 0 5 3\nirq 1 5 3\nirq 0 5 13\nimages\n\n\nrun 1 0 1000000000\n\
+         sample 18446744073709551616\nevict 99999999999999999999999999999999999999999999\nend\n";
     let mut source = MemSource::new(rt.alloc(), text.as_bytes(), &[3], &[])?;
     let mut reader = ScheduleReader::new();
     assert_eq!(rt; reader.line(), 0);

@@ -60,7 +60,8 @@ const PLACES: &[Place] = &[
         commands: 1,
     },
     Place {
-        front: "ctr-schedule 1\nharts 1\nlayout 803\ntask 4 8 0 4 0 0\nimages\nabcdrun 0 0 1\nsample 0\n",
+        front: "ctr-schedule 1\nharts 1\nlayout 803\ntask 4 8 0 4 0 0\nimages\n\
+                abcdrun 0 0 1\nsample 0\n",
         words: "evict ",
         zeros: 248,
         line: 8,

@@ -81,7 +81,9 @@ fn schedule(
     commands: &[Command],
 ) -> Result<Vec<u8>, Fail> {
     let head = format!(in alloc;
-        "ctr-schedule 1\nharts 16\nlayout 10bcf\ntask {} 16384 0 4 0 0\ntask {} 16384 4 6 2 1000\nirq 0 1000 3\nirq 1 0 13\nimages\n",
+        "ctr-schedule 1\nharts 16\nlayout 10bcf\n\
+         task {} 16384 0 4 0 0\ntask {} 16384 4 6 2 1000\n\
+         irq 0 1000 3\nirq 1 0 13\nimages\n",
         first.len(),
         second.len()
     )?;
