@@ -40,7 +40,7 @@ pub struct Engine {
     tasks: Tasks,
     broken: bool,
     // Room for the bytes of a sample, which is cleared once.
-    room: Buffer,
+    room: Box<Buffer>,
 }
 
 impl Model for Engine {
@@ -80,6 +80,7 @@ impl Engine {
             ≡ map first_present (tasks_of_lines 0 header.tasks images header.irqs)) }
     {
         let layout = layout_of(&header);
+        let room = Box::new(alloc, Buffer::new())?;
         let orders = orders_of(alloc, &header.tasks, &header.irqs)?;
         let tasks = first_tasks(alloc, &header.tasks, mems)?;
         tasks.facts();
@@ -91,7 +92,7 @@ impl Engine {
             },
             tasks,
             broken: false,
-            room: Buffer::new(),
+            room,
         })
     }
 
@@ -163,7 +164,7 @@ impl Engine {
             &mut self.tasks,
             command,
             harts,
-            &mut self.room,
+            &mut *self.room,
             sink,
         );
         self.tasks.facts();

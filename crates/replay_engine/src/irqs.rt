@@ -117,7 +117,6 @@ impl Irqs {
     }
 
     // Whether there is one at this place, at this step.
-    #[inline(always)]
     fn is_due(&self, at: usize, step: u64) -> bool
         ensures yes { OnTrue result (IsDue self.now at step) }
         ensures no { OnFalse result (IsDue self.now at step → ⊥) }
@@ -131,7 +130,6 @@ impl Irqs {
 
     // The bits of `mip` that those of a step set. The place goes on from the first of this step to
     // the first of a later one.
-    #[inline(always)]
     pub(crate) fn raised(&self, place: &mut usize, step: u64) -> u64
         requires { place.old ≡ place_of self.now step }
         ensures bits { result ≡ causes self.now step }

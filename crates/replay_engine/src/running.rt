@@ -18,7 +18,6 @@ use perf_sample::Buffer;
 use rv_hart::{Hart, Store};
 
 // One step of a task on a hart.
-#[inline(always)]
 fn step(hart: &mut Hart<Store>, task: &mut Task, pending: u64)
     requires pending { IsWithin 0x2EEE pending }
     requires hart_room { hart.old.steps ≤ 2 ^ 62 }
@@ -51,7 +50,6 @@ fn next_due(period: u32, steps: u64) -> u64
 }
 
 // Writes the sample of a task after a step, if one is due, and says when the next one is.
-#[inline(always)]
 fn write_due<K: Sink>(
     hart: &mut Hart<Store>,
     task: &Task,

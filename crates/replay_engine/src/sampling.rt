@@ -59,7 +59,6 @@ fn branch(slot: Slot) -> Branch
 }
 
 // Entries as branches, in the same order.
-#[inline(always)]
 fn branches(slots: &Slots) -> Branches
     ensures items { result ≡ map branch_of slots.now }
     ensures flags { FlagsFit result }
@@ -132,7 +131,6 @@ fn hw_index(layout: Layout, slots: &Slots, youngest: u64) -> u64
 
 // The sample of a task that made so many steps, with its records read through the registers of its
 // hart.
-#[inline(always)]
 pub(crate) fn sample(hart: &mut Hart<Store>, subject: &Subject, steps: u64) -> Sample
     requires { hart.old.accesses + 2 ≤ 2 ^ 62 }
     ensures value { result ≡ sample_by subject.now hart.old.core hart.old.unit.stack steps }
@@ -186,7 +184,8 @@ fn write<K: Sink>(
     }
 }
 
-// Writes the sample of a task that made so many steps.
+// Writes the sample of a task that made so many steps. It is never inlined, since a function clears
+// the room of all that is inlined into it when it begins.
 #[inline(never)]
 pub(crate) fn write_sample<K: Sink>(
     hart: &mut Hart<Store>,
