@@ -1,6 +1,6 @@
 -- The plan, the tasks and the samples of a header, by its task lines.
 use Rattle.std.proofs.Common.{◌≡◌, refl, sym, ◌∙◌, ap, ℕ, zero, suc, ◌+◌, List, [], ◌∷◌, ◌++◌}
-use Rattle.std.proofs.Common.{length, map, Bool, true, false, cond, Option, Some, None, arith}
+use Rattle.std.proofs.Common.{length, map, Bool, true, false, cond, Option, Some, arith}
 use Rattle.std.specs.Prelude.{slice_get}
 use Rattle.std.specs.List.{All, filter, range_with_len}
 use Rattle.std.proofs.lemmas.List.{map-append}

@@ -1,7 +1,7 @@
 -- An engine before its first command.
-use Rattle.std.proofs.Common.{◌≡◌, refl, sym, ap, subst, ◌∙◌, ℕ, zero, suc, ◌+◌, ◌<◌, ◌≤◌}
+use Rattle.std.proofs.Common.{◌≡◌, refl, sym, ap, subst, ◌∙◌, ℕ, zero, suc, ◌+◌, ◌<◌}
 use Rattle.std.proofs.Common.{List, [], ◌∷◌, ◌++◌, length, map, take, drop, get_or, replicate}
-use Rattle.std.proofs.Common.{nat_eq, Bool, true, false, cond, Option, Some, None}
+use Rattle.std.proofs.Common.{nat_eq, Bool, true, cond, Option, Some, None}
 use Rattle.std.proofs.Common.{arith}
 use Rattle.std.specs.Prelude.{All, slice_get}
 use Rattle.std.proofs.lemmas.List.{take_more, drop_more}
