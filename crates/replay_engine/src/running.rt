@@ -82,8 +82,8 @@ fn write_due<K: Sink>(
     write_sample(hart, subject, task.steps, room, sink)
 }
 
-// Makes so many steps of a task on a hart, and writes the samples that its period wants. It is never
-// inlined: beside the moves of a command, less of a step is inlined into its loop.
+// Makes so many steps of a task on a hart, and writes the samples that its period wants. It is
+// never inlined: beside the moves of a command the compiler inlines less of a step into the loop.
 #[inline(never)]
 pub(crate) fn run_steps<K: Sink>(
     hart: &mut Hart<Store>,
