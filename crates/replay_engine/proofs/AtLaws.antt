@@ -1,5 +1,5 @@
 -- Harts that no command named, and what the sixteen harts are after commands.
-use Rattle.std.proofs.Common.{◌≡◌, refl, sym, ◌∙◌, ap, ℕ, ◌<◌, List, [], ◌∷◌, ◌++◌, length}
+use Rattle.std.proofs.Common.{◌≡◌, refl, sym, ◌∙◌, ap, subst, ℕ, ◌<◌, List, [], ◌∷◌, ◌++◌, length}
 use Rattle.std.proofs.Common.{map, arith, Bool, true, false, ◌||◌, nat_eq}
 use Rattle.std.specs.Prelude.{slice_get, Option, Some}
 use Rattle.std.specs.List.{list_any}
@@ -11,7 +11,7 @@ use Rattle.sched_text.specs.declared.schedule.Command.{Command}
 use Rattle.sched_text.specs.declared.schedule.Command.TheVariants.{Run, Sample as Sampled, Evict}
 use Rattle.sched_text.specs.declared.schedule.Command.TheVariants.{End}
 use Rattle.replay_engine.specs.declared.plan.Orders.{Orders}
-use Rattle.replay_engine.specs.HartsAt.{IsAt, StandingHartsAreAt}
+use Rattle.replay_engine.specs.HartsAt.{IsAt, Runs, StandingHartsAreAt, ResidentsAreLone}
 use Rattle.replay_engine.specs.Outcome.{IsUntouched, OthersStay}
 use Rattle.replay_engine.specs.Placing.{IsOn}
 use Rattle.replay_engine.specs.Runs.{present_after}
@@ -21,9 +21,11 @@ use Rattle.replay_engine.specs.Stands.{StandsFor}
 use Rattle.replay_engine.specs.Tasks.{TaskState, PresentState, state_on, present_state, place_of}
 use Rattle.replay_engine.specs.Tasks.{places, resident_of, residents}
 use Rattle.replay_engine.specs.View.{Plan, view_of, steps_of, accesses_of}
+use Rattle.replay_engine.specs.Start.{first_present}
 use Rattle.replay_engine.proofs.Items.{get_map, got_by, get_there, some_of}
 use Rattle.replay_engine.proofs.Moves.{present_there}
 use Rattle.replay_engine.proofs.PlacingLaws.{places_are_told}
+use Rattle.replay_engine.proofs.VisibleLaws.{lone_state}
 
 or_parts : (a b : Bool) → (a || b) ≡ false → (a ≡ false) × (b ≡ false)
 or_parts false false e = (refl, refl)
@@ -136,3 +138,13 @@ standing_harts_are_at plan first cs ts hs s = record {
   sixteen = sym (length-map hs resident_of) ∙ s.view.sixteen;
   each = λ h y at. is_at plan first cs ts hs h y s at;
 }
+
+pub residents_are_lone : ResidentsAreLone
+residents_are_lone plan tasks cs ts hs h t y task ordered s at here is =
+    let first = map first_present tasks in
+    let p = first_present task in
+    let got : slice_get first t ≡ Some p = get_map first_present tasks t task is in
+    let o = get_there plan.tasks t
+    (omega (arith, slice_get_within first t p got, s.view.orders)) in
+    subst (Runs y) (lone_state plan tasks ordered t p o.0 o.1 task is refl (own_steps cs t))
+    ((is_at plan first cs ts hs h y s at).runs t p o.0 here got o.1)

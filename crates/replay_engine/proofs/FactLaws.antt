@@ -3,6 +3,7 @@ use Rattle.std.proofs.Common.{◌≡◌, refl, sym, ◌∙◌, ap, subst, ℕ, z
 use Rattle.std.proofs.Common.{◌∷◌, length, map, nat_lt, Bool, true, false, cond, inl, inr, arith}
 use Rattle.std.specs.Prelude.{slice_get, slice_set, Option, Some, None, Result, Ok, Err}
 use Rattle.std.specs.Prelude.{if◌then◌else◌}
+use Rattle.std.specs.List.{All}
 use Rattle.std.proofs.lemmas.List.{map-set, length-map}
 use Rattle.std.proofs.lemmas.Option.{none-some}
 use Rattle.rv_hart.specs.Hart.{HartState}
@@ -15,7 +16,7 @@ use Rattle.replay_engine.specs.declared.fault.PerformFault.{PerformFault}
 use Rattle.replay_engine.specs.declared.fault.PerformFault.TheVariants.{NoTask, NoHart, NotResident}
 use Rattle.replay_engine.specs.declared.fault.PerformFault.TheVariants.{EmptyHart, Write}
 use Rattle.replay_engine.specs.declared.plan.Orders.{Orders}
-use Rattle.replay_engine.specs.Engine.{IsEngine, AreBelow, AreApart, memory_size}
+use Rattle.replay_engine.specs.Engine.{IsEngine, HasWholeArea, AreBelow, AreApart, memory_size}
 use Rattle.replay_engine.specs.Outcome.{IsOutcome, refusal}
 use Rattle.replay_engine.specs.Runs.{present_after}
 use Rattle.replay_engine.specs.Tasks.{TaskState, PresentState, AreInverse, PlacesAgree, places}
@@ -188,18 +189,24 @@ apart ps rs inverse t u h first second =
 after_view : (plan : Plan) (ts ts' : List TaskState) (hs hs' : List HartState) (c : Command)
     (broken now : Bool)
     → MemoryKeepsItsSize → refusal plan (view_of ts hs) c ≡ None → PlacesAgree ts' hs' →
-    view_of ts' hs' ≡ after_command plan (view_of ts hs) c
+    view_of ts' hs' ≡ after_command plan (view_of ts hs) c → All HasWholeArea ts'
     → IsEngine (record { plan = plan; tasks = ts; broken = broken }) →
     IsEngine (record { plan = plan; tasks = ts'; broken = now })
-after_view plan ts ts' hs hs' c broken now keeps allowed agree view is =
+after_view plan ts ts' hs hs' c broken now keeps allowed agree view areas is =
     let sizes : map memory_size ts' ≡ map memory_size ts
     = sym (task_sizes ts' hs') ∙ ap (λ (v : View). map size_of v.present_states) view
     ∙ sizes_after keeps plan (view_of ts hs) c ∙ task_sizes ts hs in
     let same : length ts' ≡ length ts = sym (length-map ts' memory_size)
     ∙ ap length sizes ∙ length-map ts memory_size in
     record {
+      one_hart = is.one_hart;
       harts = is.harts;
+      layout = is.layout;
+      branch = is.branch;
+      orders = is.orders;
+      one_task = omega (arith, same, is.one_task);
       few = omega (arith, same, is.few);
+      areas = areas;
       size = is.size ∙ sym same;
       memories = sizes ∙ is.memories;
       below = subst (λ (v : View). AreBelow plan.harts v.places) (sym view)
@@ -213,8 +220,14 @@ same_tasks : (plan : Plan) (ts ts' : List TaskState) (broken now : Bool) → ts'
 same_tasks plan ts ts' broken now e is =
     let here : IsEngine (record { plan = plan; tasks = ts; broken = now }) =
     record {
+      one_hart = is.one_hart;
       harts = is.harts;
+      layout = is.layout;
+      branch = is.branch;
+      orders = is.orders;
+      one_task = is.one_task;
       few = is.few;
+      areas = is.areas;
       size = is.size;
       memories = is.memories;
       below =
@@ -227,24 +240,24 @@ same_tasks plan ts ts' broken now e is =
 pub facts_kept : {K : Type 0} (gained : K → List ℕ → K → Type 0) (old new : K) (plan : Plan)
     (ts ts' : List TaskState) (hs hs' : List HartState) (c : Command)
     (r : Result (Unit {0}) PerformFault) (broken now : Bool)
-    → MemoryKeepsItsSize → IsOutcome gained old new plan ts ts' hs hs' c r
+    → MemoryKeepsItsSize → IsOutcome gained old new plan ts ts' hs hs' c r → All HasWholeArea ts'
     → IsEngine (record { plan = plan; tasks = ts; broken = broken }) →
     IsEngine (record { plan = plan; tasks = ts'; broken = now })
-facts_kept gained old new plan ts ts' hs hs' c (Ok x) broken now keeps o is =
-    after_view plan ts ts' hs hs' c broken now keeps o.allowed o.kept o.done.view is
-facts_kept gained old new plan ts ts' hs hs' c (Err NoTask) broken now keeps o is =
+facts_kept gained old new plan ts ts' hs hs' c (Ok x) broken now keeps o areas is =
+    after_view plan ts ts' hs hs' c broken now keeps o.allowed o.kept o.done.view areas is
+facts_kept gained old new plan ts ts' hs hs' c (Err NoTask) broken now keeps o areas is =
     same_tasks plan ts ts' broken now o.tasks is
-facts_kept gained old new plan ts ts' hs hs' c (Err NoHart) broken now keeps o is =
+facts_kept gained old new plan ts ts' hs hs' c (Err NoHart) broken now keeps o areas is =
     same_tasks plan ts ts' broken now o.tasks is
-facts_kept gained old new plan ts ts' hs hs' c (Err NotResident) broken now keeps o is =
+facts_kept gained old new plan ts ts' hs hs' c (Err NotResident) broken now keeps o areas is =
     same_tasks plan ts ts' broken now o.tasks is
-facts_kept gained old new plan ts ts' hs hs' c (Err EmptyHart) broken now keeps o is =
+facts_kept gained old new plan ts ts' hs hs' c (Err EmptyHart) broken now keeps o areas is =
     same_tasks plan ts ts' broken now o.tasks is
-facts_kept gained old new plan ts ts' hs hs' (Run h t n) (Err Write) broken now keeps o is =
+facts_kept gained old new plan ts ts' hs hs' (Run h t n) (Err Write) broken now keeps o areas is =
     after_view plan ts ts' hs hs' (Run h t (suc o.broke.before))
-    broken now keeps o.allowed o.kept o.broke.view is
-facts_kept gained old new plan ts ts' hs hs' (Sampled t) (Err Write) broken now keeps o is =
-    after_view plan ts ts' hs hs' (Sampled t) broken now keeps o.allowed o.kept o.broke.view is
-facts_kept gained old new plan ts ts' hs hs' (Evict h) (Err Write) broken now keeps o is =
+    broken now keeps o.allowed o.kept o.broke.view areas is
+facts_kept gained old new plan ts ts' hs hs' (Sampled t) (Err Write) broken now keeps o areas is =
+    after_view plan ts ts' hs hs' (Sampled t) broken now keeps o.allowed o.kept o.broke.view areas is
+facts_kept gained old new plan ts ts' hs hs' (Evict h) (Err Write) broken now keeps o areas is =
     absurd o.broke
-facts_kept gained old new plan ts ts' hs hs' End (Err Write) broken now keeps o is = absurd o.broke
+facts_kept gained old new plan ts ts' hs hs' End (Err Write) broken now keeps o areas is = absurd o.broke

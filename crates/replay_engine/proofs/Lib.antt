@@ -25,3 +25,4 @@ mod AfterLaws
 mod AtLaws
 mod BreakLaws
 mod VisibleLaws
+mod LineLaws

@@ -1,10 +1,12 @@
 -- One turn of the loop over steps.
 use Rattle.std.proofs.Common.{◌≡◌, refl, sym, ◌∙◌, ap, subst, ℕ, suc, ◌+◌, ◌≤◌, ◌<◌, ◌^◌, List, []}
 use Rattle.std.proofs.Common.{◌∷◌, ◌++◌, length, take, arith, append-nil, Bool, true, false, cond}
+use Rattle.std.specs.Prelude.{OnOk, OnErr, Result, Ok, Err}
 use Rattle.replay_engine.specs.Samples.{sample_of, sample_cost}
 use Rattle.std.proofs.Math.Numerals.{suc-eq-add-one}
 use Rattle.std.proofs.lemmas.Grind.{flat_map-append}
 use Rattle.ctr_port.specs.Appended.{GainsPart}
+use Rattle.ctr_port.specs.declared.ends.WriteFault.{WriteFault}
 use Rattle.perf_sample.specs.Spelling.{spelling}
 use Rattle.rv_hart.specs.Hart.{HartState}
 use Rattle.rv_hart.specs.Task.{Irq}
@@ -13,7 +15,7 @@ use Rattle.replay_engine.specs.Runs.{next_present, present_after, is_due, due_sa
 use Rattle.replay_engine.specs.Runs.{samples_of_steps, spellings}
 use Rattle.replay_engine.specs.declared.sampling.Subject.{Subject}
 use Rattle.replay_engine.proofs.Steps.{step_more, costs_most}
-use Rattle.replay_engine.specs.Parts.{StepsMade, RunCut}
+use Rattle.replay_engine.specs.Parts.{StepsMade, RunMade, RunCut}
 
 pub turn : (y y1 y2 y3 : HartState) (x x1 x2 : TaskState) (s : Subject) (irqs : List Irq) (n : ℕ)
     → StepsMade y y1 x x1 s irqs n
@@ -26,7 +28,8 @@ turn y y1 y2 y3 x x1 x2 s irqs n h one hart task paid =
     step_more y y1 y2 y3 x x1 x2 s irqs n h one
     (ap (λ (a : HartState). a.steps) hart) (ap (λ (a : HartState). a.accesses) hart)
     (ap (λ (a : HartState). a.resident) hart)
-    (ap (λ (a : TaskState). a.steps) task) (ap (λ (a : TaskState). a.place) task) paid
+    (ap (λ (a : TaskState). a.steps) task) (ap (λ (a : TaskState). a.place) task)
+    (ap (λ (a : TaskState). a.core) task) (ap (λ (a : TaskState). a.area) task) paid
 
 pub spelled_more : (s : Subject) (irqs : List Irq) (n : ℕ) (p q : PresentState) → q
     ≡ present_after irqs (suc n) p
@@ -91,3 +94,12 @@ no_cost s p none = ap (λ (b : Bool). cond b (sample_cost s.layout p) 0) none
 pub sample_paid : (s : Subject) (p : PresentState) → is_due s.period p.steps ≡ true → due_cost s p
     ≡ sample_cost s.layout p
 sample_paid s p now = ap (λ (b : Bool). cond b (sample_cost s.layout p) 0) now
+
+-- steps leave the save area of a task
+pub area_stays : {K : Type 0} (gained : K → List ℕ → K → Type 0) (old new : K) (y y' : HartState)
+    (x x' : TaskState) (s : Subject) (irqs : List Irq) (n : ℕ)
+    (r : Result (Unit {0}) WriteFault) →
+    OnOk r (RunMade gained old new y y' x x' s irqs n) →
+    OnErr r (RunCut gained old new y y' x x' s irqs n) → x'.area ≡ x.area
+area_stays gained old new y y' x x' s irqs n (Ok z) made cut = made.stepped.area
+area_stays gained old new y y' x x' s irqs n (Err f) made cut = cut.stepped.area

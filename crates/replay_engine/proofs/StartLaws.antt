@@ -1,16 +1,19 @@
 -- An engine before its first command.
-use Rattle.std.proofs.Common.{◌≡◌, refl, sym, ap, subst, ◌∙◌, ℕ, zero, suc, ◌+◌, ◌<◌, ◌≤◌}
+use Rattle.std.proofs.Common.{◌≡◌, refl, sym, ap, subst, ◌∙◌, ℕ, zero, suc, ◌+◌, ◌<◌}
 use Rattle.std.proofs.Common.{List, [], ◌∷◌, ◌++◌, length, map, take, drop, get_or, replicate}
-use Rattle.std.proofs.Common.{nat_eq, Bool, true, false, cond, Option, Some, None}
+use Rattle.std.proofs.Common.{nat_eq, Bool, true, cond, Option, Some, None}
 use Rattle.std.proofs.Common.{arith}
 use Rattle.std.specs.Prelude.{All, slice_get}
 use Rattle.std.proofs.lemmas.List.{take_more, drop_more}
-use Rattle.std.proofs.lemmas.List.Elements.{All-head, All-tail}
+use Rattle.std.proofs.lemmas.List.Elements.{All-nil, All-cons, All-head, All-tail}
 use Rattle.rv_hart.specs.Task.{Irq}
 use Rattle.rv_hart.specs.Hart.{HartState, fresh_hart, fresh_harts}
 use Rattle.rv_hart.specs.Memory.{memory_of}
 use Rattle.sched_text.specs.declared.schedule.IrqLine.{IrqLine}
+use Rattle.sched_text.specs.declared.schedule.Header.{Header}
 use Rattle.sched_text.specs.declared.schedule.TaskLine.{TaskLine}
+use Rattle.sched_text.specs.Header.{IsHeader}
+use Rattle.sched_text.specs.Rows.{IsTask}
 use Rattle.sched_text.specs.Irqs.{lines_of_task}
 use Rattle.replay_engine.specs.declared.plan.Orders.{Orders}
 use Rattle.replay_engine.specs.Irqs.{IsIrq, CanFollow, AreIrqs}
@@ -19,7 +22,8 @@ use Rattle.replay_engine.specs.Tasks.{PresentState, present_states}
 use Rattle.replay_engine.specs.Tasks.{places, PlacesAgree, state_off}
 use Rattle.replay_engine.specs.View.{Plan, view_of, steps_of, accesses_of}
 use Rattle.replay_engine.specs.Stands.{ViewStandsFor, StandsFor}
-use Rattle.replay_engine.specs.Engine.{IsEngine, memory_size, memory_asked}
+use Rattle.replay_engine.specs.Engine.{IsEngine, HasWholeArea, IsOrders, memory_size}
+use Rattle.replay_engine.specs.Engine.{memory_asked}
 use Rattle.replay_engine.proofs.FirstLaws.{length-fresh_tasks}
 use Rattle.replay_engine.proofs.Items.{some_of}
 use Rattle.replay_engine.proofs.Begins.{begins, get_replicate, got_replicate, map_replicate}
@@ -29,9 +33,9 @@ use Rattle.ctr_csrs.specs.declared.depth.Depth.TheVariants.{D16, D32, D64, D128,
 use Rattle.ctr_csrs.specs.StatusFigure.{pointer_in}
 use Rattle.replay_engine.specs.Start.{fresh_task, fresh_tasks, task_of_line, depth_named}
 use Rattle.replay_engine.specs.Start.{AreMemories, mem_of, size_of, memories, tasks_of_lines}
-use Rattle.replay_engine.specs.Start.{first_present}
+use Rattle.replay_engine.specs.Start.{first_present, fresh_engine}
 use Rattle.replay_engine.proofs.IrqLaws.{follows_in}
-use Rattle.replay_engine.proofs.HeaderLaws.{length_map, irqs_append}
+use Rattle.replay_engine.proofs.HeaderLaws.{length_map, irqs_append, header_irqs}
 use Rattle.replay_engine.specs.Counts.{CountsWithin}
 
 parts_of : (lines : List IrqLine) (i : ℕ) → lines ≡ take i lines ++ drop i lines
@@ -210,27 +214,37 @@ memories_asked t (l ∷ ls) (m ∷ ms) irqs e =
     ap (λ (n : ℕ). n ∷ map memory_size (fresh_tasks ls ms)) here
     ∙ ap (λ (ns : List ℕ). l.mem ∷ ns) (memories_asked (suc t) ls ms irqs rest)
 
-pub started_facts : (plan : Plan) (ls : List TaskLine) (ms : List (List ℕ)) (irqs : List IrqLine) →
-    plan.tasks ≡ orders_from 0 ls irqs → plan.harts ≤ 16 → length ls ≤ 64
-    → AreMemories ls ms → IsEngine (record {
-      plan = plan;
-      tasks = fresh_tasks ls ms;
-      broken =
-          false;
-    })
-started_facts plan ls ms irqs orders few tasks are =
-    let size : length plan.tasks ≡ length (fresh_tasks ls ms) =
-    ap length orders ∙ length_orders 0 ls irqs
-    ∙ sym (length-fresh_tasks ls ms (sym (as_many ls ms are))) in
+-- the orders of lines in their ranges
+orders_good : (u : ℕ) (ls : List TaskLine) (irqs : List IrqLine) →
+    ((t : ℕ) → AreIrqs (irqs_of t irqs)) → All IsTask ls → All IsOrders (orders_from u ls irqs)
+orders_good u [] irqs are each = All-nil IsOrders
+orders_good u (l ∷ ls) irqs are each =
+    All-cons IsOrders _ (orders_from (suc u) ls irqs)
+    (record { period = (All-head IsTask l ls each).period; irqs = are u })
+    (orders_good (suc u) ls irqs are (All-tail IsTask l ls each))
+
+pub started_facts : (h : Header) (ms : List (List ℕ)) → IsHeader h → AreMemories h.tasks ms →
+    All HasWholeArea (fresh_tasks h.tasks ms) → IsEngine (fresh_engine h ms)
+started_facts h ms is are areas =
+    let ls = h.tasks in
+    let same : length (fresh_tasks ls ms) ≡ length ls =
+    length-fresh_tasks ls ms (sym (as_many ls ms are)) in
     record {
-      harts = few;
-      few = omega (arith, tasks, length-fresh_tasks ls ms (sym (as_many ls ms are)));
-      size = size;
-      memories = memories_asked 0 ls ms irqs are ∙ ap (map memory_asked) (sym orders);
+      one_hart = is.one_hart;
+      harts = is.harts;
+      layout = is.layout;
+      branch = is.branch;
+      orders =
+          orders_good 0 ls h.irqs (header_irqs (length ls) h.irqs is.irqs is.order) is.tasks;
+      one_task = omega (arith, is.one_task, same);
+      few = omega (arith, is.few, same);
+      areas = areas;
+      size = length_orders 0 ls h.irqs ∙ sym same;
+      memories = memories_asked 0 ls ms h.irqs are;
       below = λ t h e. absurd (not_there t h e);
       apart = λ t u h e f. absurd (not_there t h e);
     } where
-      not_there : (t h : ℕ) → slice_get (places (fresh_tasks ls ms)) t ≡ Some (Some h) → ⊥
-      not_there t h e = none-some h
-          (got_replicate (length (fresh_tasks ls ms)) t None (Some h)
-          (ap (λ (ps : List (Option ℕ)). slice_get ps t) (sym (nowhere ls ms)) ∙ e))
+      not_there : (t g : ℕ) → slice_get (places (fresh_tasks h.tasks ms)) t ≡ Some (Some g) → ⊥
+      not_there t g e = none-some g
+          (got_replicate (length (fresh_tasks h.tasks ms)) t None (Some g)
+          (ap (λ (ps : List (Option ℕ)). slice_get ps t) (sym (nowhere h.tasks ms)) ∙ e))

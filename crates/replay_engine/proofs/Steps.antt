@@ -51,10 +51,10 @@ pub step_more : (y y1 y2 y3 : HartState) (x x1 x2 : TaskState) (s : Subject) (ir
     → StepsMade y y1 x x1 s irqs n
     → state_on y2 x2 ≡ next_present irqs (state_on y1 x1)
     → y2.steps ≡ y1.steps + 1 → y2.accesses ≡ y1.accesses → y2.resident ≡ y1.resident
-    → x2.steps ≡ x1.steps + 1 → x2.place ≡ x1.place
+    → x2.steps ≡ x1.steps + 1 → x2.place ≡ x1.place → x2.core ≡ x1.core → x2.area ≡ x1.area
     → y3 ≡ record y2 { accesses = y2.accesses + due_cost s (state_on y2 x2) }
     → StepsMade y y3 x x2 s irqs (suc n)
-step_more y y1 y2 y3 x x1 x2 s irqs n h one steps accesses resident count place paid =
+step_more y y1 y2 y3 x x1 x2 s irqs n h one steps accesses resident count place core area paid =
     let now : state_on y2 x2 ≡ present_after irqs (suc n) (state_on y x) = one
     ∙ ap (next_present irqs) h.seat in
     let cost : due_cost s (state_on y2 x2)
@@ -66,4 +66,6 @@ step_more y y1 y2 y3 x x1 x2 s irqs n h one steps accesses resident count place 
       resident = ap (λ (a : HartState). a.resident) paid ∙ resident ∙ h.resident;
       count = omega (arith, count, h.count);
       place = place ∙ h.place;
+      core = core ∙ h.core;
+      area = area ∙ h.area;
     }

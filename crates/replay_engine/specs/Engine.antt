@@ -1,6 +1,11 @@
 -- What an engine holds, and what every engine keeps to.
 use Rattle.std.specs.Prelude.{◌≡◌, ℕ, ◌<◌, ◌≤◌, Bool, List, length, map, slice_get, Option, Some}
+use Rattle.std.specs.List.{All}
+use Rattle.perf_sample.specs.Layout.{IsLayout, IsBranchWord}
+use Rattle.sched_text.specs.declared.limits.TheConstants.{MOST_STEPS}
+use Rattle.task_switch.specs.SaveArea.{IsWhole}
 use Rattle.replay_engine.specs.declared.plan.Orders.{Orders}
+use Rattle.replay_engine.specs.Irqs.{AreIrqs}
 use Rattle.replay_engine.specs.Tasks.{TaskState, places}
 use Rattle.replay_engine.specs.View.{Plan}
 
@@ -24,11 +29,27 @@ AreBelow n ps = (t h : ℕ) → slice_get ps t ≡ Some (Some h) → h < n
 abbrev pub AreApart : List (Option ℕ) → Type 0
 AreApart ps = (t u h : ℕ) → slice_get ps t ≡ Some (Some h) → slice_get ps u ≡ Some (Some h) → t ≡ u
 
--- there is a task for each that the schedule speaks of, with a memory of its size; each is on one
--- of the harts that the schedule asks for or on none, and no two are on the same
+-- the save area of a task holds a unit, also where it is an old one
+abbrev pub HasWholeArea : TaskState → Type 0
+HasWholeArea x = IsWhole x.area
+
+-- a period in its range, and interrupts in their order
+pub record IsOrders (o : Orders) : Type 0 where
+  pub period : o.period ≤ MOST_STEPS
+  pub irqs : AreIrqs o.irqs
+
+-- there are harts and tasks, and a layout of samples; there is a task for each that the schedule
+-- speaks of, with a memory of its size and a save area that holds a unit; each is on one of the
+-- harts that the schedule asks for or on none, and no two are on the same
 pub record IsEngine (e : EngineState) : Type 0 where
+  pub one_hart : 1 ≤ e.plan.harts
   pub harts : e.plan.harts ≤ 16
+  pub layout : IsLayout e.plan.layout.sample_type
+  pub branch : IsBranchWord e.plan.layout.branch
+  pub orders : All IsOrders e.plan.tasks
+  pub one_task : 1 ≤ length e.tasks
   pub few : length e.tasks ≤ 64
+  pub areas : All HasWholeArea e.tasks
   pub size : length e.plan.tasks ≡ length e.tasks
   pub memories : map memory_size e.tasks ≡ map memory_asked e.plan.tasks
   pub below : AreBelow e.plan.harts (places e.tasks)

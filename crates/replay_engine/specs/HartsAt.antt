@@ -1,14 +1,17 @@
 -- What the sixteen harts are after commands, told from the commands and the lone runs alone.
-use Rattle.std.specs.Prelude.{◌≡◌, ℕ, false, List, length, slice_get, Some}
+use Rattle.std.specs.Prelude.{◌≡◌, ℕ, false, List, length, map, slice_get, Some}
 use Rattle.std.specs.List.{list_any}
 use Rattle.rv_hart.specs.Hart.{HartState, fresh_hart}
+use Rattle.rv_hart.specs.Task.{Task}
 use Rattle.sched_text.specs.declared.schedule.Command.{Command}
 use Rattle.replay_engine.specs.declared.plan.Orders.{Orders}
 use Rattle.replay_engine.specs.Runs.{present_after}
 use Rattle.replay_engine.specs.Stands.{own_steps, resident_after, steps_on, accesses_on, names}
 use Rattle.replay_engine.specs.Stands.{StandsFor}
+use Rattle.replay_engine.specs.Start.{first_present, lone_present}
 use Rattle.replay_engine.specs.Tasks.{TaskState, PresentState}
 use Rattle.replay_engine.specs.View.{Plan}
+use Rattle.replay_engine.specs.Visible.{IsPlanOf}
 
 -- a hart with the core and the unit of a task after so many steps
 pub record Runs (y : HartState) (p : PresentState) : Type 0 where
@@ -37,3 +40,11 @@ abbrev pub StandingHartsAreAt : Type 0
 StandingHartsAreAt = (plan : Plan) (first : List PresentState) (cs : List Command)
     (ts : List TaskState) (hs : List HartState) →
     StandsFor plan first cs ts hs → AreAt plan first cs hs
+
+-- a hart with a resident has the core and the unit of its lone run, at its own count
+abbrev pub ResidentsAreLone : Type 0
+ResidentsAreLone = (plan : Plan) (tasks : List Task) (cs : List Command) (ts : List TaskState)
+    (hs : List HartState) (h t : ℕ) (y : HartState) (task : Task) →
+    IsPlanOf tasks plan → StandsFor plan (map first_present tasks) cs ts hs →
+    slice_get hs h ≡ Some y → resident_after cs h ≡ Some t → slice_get tasks t ≡ Some task →
+    Runs y (lone_present task (own_steps cs t))

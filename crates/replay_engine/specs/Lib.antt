@@ -1,5 +1,5 @@
 -- What a reader must believe: Samples, Runs, Tasks, View, Start, Stands, Refusals, Breaks and
--- Visible. Irqs, Counts, Engine, Outcome, HartsAt, StandsAfter, Placing, Parts and Laws tie
+-- Visible. Irqs, Counts, Engine, Outcome, HartsAt, StandsAfter, Placing, ByLine, Parts and Laws tie
 -- functions to them, and say what follows from them.
 pub mod Irqs
 pub mod Tasks
@@ -18,4 +18,5 @@ pub mod Parts
 pub mod Placing
 pub mod Breaks
 pub mod Visible
+pub mod ByLine
 pub mod Laws

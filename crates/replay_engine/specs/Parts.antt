@@ -26,6 +26,8 @@ pub record StepsMade (y y' : HartState) (x x' : TaskState) (s : Subject) (irqs :
   pub resident : y'.resident ≡ y.resident
   pub count : x'.steps ≡ x.steps + n
   pub place : x'.place ≡ x.place
+  pub core : x'.core ≡ x.core
+  pub area : x'.area ≡ x.area
 
 pub record RunMade {K : Type 0} (gained : K → List ℕ → K → Type 0) (old new : K) (y y' : HartState)
     (x x' : TaskState) (s : Subject) (irqs : List Irq) (n : ℕ) : Type 0 where

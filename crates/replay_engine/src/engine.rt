@@ -7,6 +7,7 @@ ghost use Rattle.rv_hart.specs.Hart.{fresh_harts};
 ghost use Rattle.rv_hart.specs.Task.{Task};
 ghost use Rattle.sched_text.specs.Header.{IsHeader};
 ghost use Rattle.sched_text.specs.Rows.{IsCommand};
+ghost use Rattle.sched_text.specs.declared.limits.TheConstants.{MOST_STEPS};
 ghost use Rattle.sched_text.specs.declared.schedule.Command.{Command};
 ghost use Rattle.replay_engine.specs.Counts.{HasRoom, CountsWithin};
 ghost use Rattle.replay_engine.specs.Engine.{IsEngine};
@@ -17,7 +18,7 @@ ghost use Rattle.replay_engine.specs.Start.{first_present, AreMemories, fresh_en
 ghost use Rattle.replay_engine.specs.Start.{tasks_of_lines};
 ghost use Rattle.replay_engine.specs.Tasks.{PresentState, PlacesAgree, present_states};
 ghost use Rattle.replay_engine.specs.View.{view_of};
-ghost use Rattle.replay_engine.specs.Visible.{IsLoneSample, IsPlanOf};
+ghost use Rattle.replay_engine.specs.Visible.{IsLoneSample, IsGivenSample, IsPlanOf};
 
 use crate::fault::PerformFault;
 use crate::performing::{attempt, is_write};
@@ -25,6 +26,7 @@ use crate::plan::Plan;
 use crate::starting::{TaskMems, first_tasks, layout_of, orders_of};
 use crate::tasks::Tasks;
 use ctr_port::{NoMemory, Sink};
+use perf_sample::Buffer;
 use rv_hart::{Harts, lone_run_laws, step_laws};
 use sched_text::{Command, Header};
 use std::alloc::Global;
@@ -37,6 +39,8 @@ pub struct Engine {
     plan: Plan,
     tasks: Tasks,
     broken: bool,
+    // Room for the bytes of a sample, which is cleared once.
+    room: Box<Buffer>,
 }
 
 impl Model for Engine {
@@ -46,7 +50,11 @@ impl Model for Engine {
 
     ghost view = { λ e. record { plan = e.plan; tasks = e.tasks; broken = e.broken } };
 
-    ghost invariant = { λ e. IsEngine (record { plan = e.plan; tasks = e.tasks; broken = e.broken }) };
+    ghost invariant = { λ e. IsEngine (record {
+      plan = e.plan;
+      tasks = e.tasks;
+      broken = e.broken;
+    }) };
 }
 
 impl Engine {
@@ -72,8 +80,10 @@ impl Engine {
             ≡ map first_present (tasks_of_lines 0 header.tasks images header.irqs)) }
     {
         let layout = layout_of(&header);
+        let room = Box::new(alloc, Buffer::new())?;
         let orders = orders_of(alloc, &header.tasks, &header.irqs)?;
         let tasks = first_tasks(alloc, &header.tasks, mems)?;
+        tasks.facts();
         Ok(Engine {
             plan: Plan {
                 harts: header.harts,
@@ -82,6 +92,7 @@ impl Engine {
             },
             tasks,
             broken: false,
+            room,
         })
     }
 
@@ -122,7 +133,7 @@ impl Engine {
         ensures broken { self.new.broken ≡ is_write result }
         ensures counts { (accesses steps own : ℕ) →
             CountsWithin accesses steps own (view_of self.old.tasks harts.old) →
-            CountsWithin (accesses + 2 ^ 40) (steps + 1000000000) (own + 1000000000)
+            CountsWithin (accesses + 2 ^ 40) (steps + MOST_STEPS) (own + MOST_STEPS)
             (view_of self.new.tasks harts.new) }
         ensures cause { HasCause is_write_fault (K.faults sink.old) (K.faults sink.new) result }
 
@@ -139,10 +150,24 @@ impl Engine {
         ensures visible { (tasks : List Task) (commands : List Command) →
             IsPlanOf tasks self.old.plan → All (IsLoneSample tasks)
             (scheduled_of self.old.plan (map first_present tasks) commands command) }
+
+        // And it is that of the task, the hart and an own count that the command says.
+        ensures given { (tasks : List Task) (commands : List Command) →
+            IsPlanOf tasks self.old.plan →
+            All (IsGivenSample self.old.plan tasks commands command)
+            (scheduled_of self.old.plan (map first_present tasks) commands command) }
     {
         step_laws();
         lone_run_laws();
-        let result = attempt(&self.plan, &mut self.tasks, command, harts, sink);
+        let result = attempt(
+            &self.plan,
+            &mut self.tasks,
+            command,
+            harts,
+            &mut *self.room,
+            sink,
+        );
+        self.tasks.facts();
         self.broken = is_write(result);
         result
     }

@@ -2,12 +2,14 @@
 
 ghost use Rattle.std.specs.Prelude.{ℕ, List};
 ghost use Rattle.replay_engine.specs.Breaks.{AcceptedOrBroken};
-ghost use Rattle.replay_engine.specs.HartsAt.{StandingHartsAreAt};
+ghost use Rattle.replay_engine.specs.ByLine.{PlansSayHeaders, HeadersGiveTasks};
+ghost use Rattle.replay_engine.specs.ByLine.{HeadersGiveSoundTasks, CommandsGiveLoneSamples};
+ghost use Rattle.replay_engine.specs.HartsAt.{StandingHartsAreAt, ResidentsAreLone};
 ghost use Rattle.replay_engine.specs.Laws.{MovesKeepStates, PresentsAreSteps, RunsJoin};
 ghost use Rattle.replay_engine.specs.Laws.{PlacesAreTold, StatesAreLone, SamplesJoin};
 ghost use Rattle.replay_engine.specs.Laws.{SamplesAreOwn, CommandsAddLittle, CountsLoosen};
 ghost use Rattle.replay_engine.specs.Laws.{RefusalsAgree, HeadersGiveInterrupts};
-ghost use Rattle.replay_engine.specs.Visible.{SamplesAreLone};
+ghost use Rattle.replay_engine.specs.Visible.{SamplesAreLone, SamplesAreGiven};
 
 use rv_hart::lone_run_laws;
 
@@ -31,10 +33,21 @@ pub fn engine_laws()
     // And the harts are what the commands and the lone runs make of them.
     ensures harts { StandingHartsAreAt }
 
+    // A hart with a resident has the core and the records of the resident's lone run.
+    ensures residents { ResidentsAreLone }
+
     // The samples of joined lists of commands are joined, and a task's are its own but for the
     // hart's number.
     ensures samples { SamplesJoin }
     ensures own { SamplesAreOwn }
+
+    // What a header says of the harts, the samples and each task, and the tasks that it gives with
+    // their images, each told of the task's own line; and the samples that a command gives of a
+    // task, at the multiples of its period.
+    ensures plans { PlansSayHeaders }
+    ensures tasks { HeadersGiveTasks }
+    ensures sound { HeadersGiveSoundTasks }
+    ensures scheduled { CommandsGiveLoneSamples }
 
     // How far one command moves the counts.
     ensures counts { CommandsAddLittle }
@@ -51,6 +64,9 @@ pub fn engine_laws()
     // the pointer nor an entry since its buffer was emptied, its sample shows the transfers that
     // its history leaves unreturned, in their order.
     ensures visible { SamplesAreLone }
+
+    // Each is that of the task, the hart and an own count that the command says.
+    ensures given { SamplesAreGiven }
 {
     lone_run_laws();
 }

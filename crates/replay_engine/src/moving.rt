@@ -1,7 +1,7 @@
 // A task comes to a hart and leaves it.
 ghost use Rattle.std.specs.Prelude.{◌≡◌, ◌+◌, ◌*◌, ◌≤◌, ◌^◌, Some, None};
 ghost use Rattle.ctr_csrs.specs.Depths.{entries_of};
-ghost use Rattle.task_switch.specs.SaveArea.{area_of, unit_in};
+ghost use Rattle.task_switch.specs.SaveArea.{area_of, unit_in, IsWhole};
 ghost use Rattle.task_switch.specs.WhilePassing.{with_last_select};
 
 use crate::task::Task;
@@ -24,6 +24,7 @@ pub(crate) fn take_off(hart: &mut Hart<Store>, task: &mut Task)
       place = None;
     } }
     ensures holds { unit_in task.new.area ≡ hart.old.unit }
+    ensures whole { IsWhole task.new.area }
 {
     save(hart, &mut task.area);
     hart.swap_core(&mut task.core);
@@ -43,6 +44,7 @@ pub(crate) fn put_on(hart: &mut Hart<Store>, h: u8, task: &mut Task, t: u8)
       resident = Some t;
     } }
     ensures task { task.new ≡ record task.old { core = hart.old.core; place = Some h } }
+    ensures whole { IsWhole task.new.area }
 {
     restore(hart, &task.area);
     hart.swap_core(&mut task.core);

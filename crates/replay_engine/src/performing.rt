@@ -1,15 +1,12 @@
 //! A command on tasks and harts: refused, performed, or cut off where the sink failed.
-ghost use Rattle.std.specs.Prelude.{[], map, IfOk, ◌≡◌, ◌≢◌, ℕ, ◌+◌, ◌≤◌, ◌<◌, ◌^◌, List, Some};
-ghost use Rattle.std.specs.Prelude.{None, Err, false, length, slice_get, slice_set, OnOk, OnErr};
+ghost use Rattle.std.specs.Prelude.{◌≡◌, ◌≢◌, ◌+◌, ◌≤◌, ◌<◌, ◌^◌, Some};
+ghost use Rattle.std.specs.Prelude.{None, Err, length, OnOk, OnErr};
 ghost use Rattle.ctr_port.specs.Counts.{Rose};
-ghost use Rattle.ctr_port.specs.Appended.{GainsPart};
 ghost use Rattle.sched_text.specs.Rows.{IsCommand};
-ghost use Rattle.replay_engine.specs.Counts.{HasRoom, CountsWithin};
+ghost use Rattle.sched_text.specs.declared.limits.TheConstants.{MOST_STEPS};
+ghost use Rattle.replay_engine.specs.Counts.{HasRoom};
 ghost use Rattle.replay_engine.specs.Parts.{RunAmong, CutAmong, SampleAmong, SampleCutAmong};
 ghost use Rattle.sched_text.specs.declared.schedule.Command.TheVariants as command;
-ghost use Rattle.rv_hart.specs.Hart.{HartState};
-ghost use Rattle.replay_engine.specs.Tasks.{TaskState, present_states, places, residents};
-ghost use Rattle.replay_engine.specs.Tasks.{PlacesAgree};
 ghost use Rattle.replay_engine.specs.View.{view_of};
 ghost use Rattle.replay_engine.specs.Outcome.{IsReady, IsOutcome, is_write};
 
@@ -19,6 +16,7 @@ use crate::running::run_steps;
 use crate::sampling::{Subject, write_sample};
 use crate::tasks::Tasks;
 use ctr_port::{Sink, WriteFault};
+use perf_sample::Buffer;
 use rv_hart::Harts;
 use sched_text::Command;
 
@@ -29,11 +27,12 @@ fn run_on_hart<K: Sink>(
     orders: &Orders,
     subject: &Subject,
     steps: u32,
+    room: &mut Buffer,
     sink: &mut K,
 ) -> Result<(), WriteFault>
     requires task { subject.now.task < length tasks.old }
     requires hart { subject.now.hart < 16 }
-    requires few { steps ≤ 1000000000 }
+    requires few { steps ≤ MOST_STEPS }
     requires room { HasRoom (2 ^ 61 + 3090) (view_of tasks.old harts.old) }
     ensures whole { OnOk result (RunAmong K.gained sink.old sink.new tasks.old tasks.new harts.old
         harts.new subject.now orders.now.irqs steps) }
@@ -49,6 +48,7 @@ fn run_on_hart<K: Sink>(
         &orders.irqs,
         subject,
         steps,
+        room,
         sink,
     )
 }
@@ -58,6 +58,7 @@ fn sample_on_hart<K: Sink>(
     tasks: &Tasks,
     harts: &mut Harts,
     subject: &Subject,
+    room: &mut Buffer,
     sink: &mut K,
 ) -> Result<(), WriteFault>
     requires task { subject.now.task < length tasks.now }
@@ -71,7 +72,13 @@ fn sample_on_hart<K: Sink>(
     ensures cause { OnErr result (Rose (K.faults sink.old) (K.faults sink.new)) }
 {
     let steps = tasks.list[subject.task as usize].steps;
-    write_sample(harts.hart_mut(subject.hart as usize), subject, steps, sink)
+    write_sample(
+        harts.hart_mut(subject.hart as usize),
+        subject,
+        steps,
+        room,
+        sink,
+    )
 }
 
 // Brings a task to a hart and makes its steps there.
@@ -82,10 +89,11 @@ fn run<K: Sink>(
     task: u64,
     steps: u32,
     harts: &mut Harts,
+    room: &mut Buffer,
     sink: &mut K,
 ) -> Result<(), PerformFault>
     requires ready { IsReady plan.now tasks.old harts.old }
-    requires few { steps ≤ 1000000000 }
+    requires few { steps ≤ MOST_STEPS }
     ensures outcome { IsOutcome K.gained sink.old sink.new plan.now tasks.old tasks.new harts.old
         harts.new (command.Run hart task steps) result }
     ensures size { length tasks.new ≡ length tasks.old }
@@ -107,7 +115,7 @@ fn run<K: Sink>(
         period: orders.period,
     };
     tasks.bring(t, h, harts);
-    match run_on_hart(tasks, harts, orders, &subject, steps, sink) {
+    match run_on_hart(tasks, harts, orders, &subject, steps, room, sink) {
         Ok(()) => Ok(()),
         Err(_) => Err(PerformFault::Write),
     }
@@ -119,6 +127,7 @@ fn sample<K: Sink>(
     tasks: &mut Tasks,
     task: u64,
     harts: &mut Harts,
+    room: &mut Buffer,
     sink: &mut K,
 ) -> Result<(), PerformFault>
     requires ready { IsReady plan.now tasks.old harts.old }
@@ -141,7 +150,7 @@ fn sample<K: Sink>(
                 hart: h,
                 period: plan.tasks[t as usize].period,
             };
-            match sample_on_hart(tasks, harts, &subject, sink) {
+            match sample_on_hart(tasks, harts, &subject, room, sink) {
                 Ok(()) => Ok(()),
                 Err(_) => Err(PerformFault::Write),
             }
@@ -183,6 +192,7 @@ pub(crate) fn attempt<K: Sink>(
     tasks: &mut Tasks,
     command: Command,
     harts: &mut Harts,
+    room: &mut Buffer,
     sink: &mut K,
 ) -> Result<(), PerformFault>
     requires ready { IsReady plan.now tasks.old harts.old }
@@ -193,8 +203,10 @@ pub(crate) fn attempt<K: Sink>(
     ensures cause { result ≡ Err PerformFault.Write → Rose (K.faults sink.old) (K.faults sink.new) }
 {
     match command {
-        Command::Run { hart, task, steps } => run(plan, tasks, hart, task, steps, harts, sink),
-        Command::Sample { task } => sample(plan, tasks, task, harts, sink),
+        Command::Run { hart, task, steps } => run(
+            plan, tasks, hart, task, steps, harts, room, sink,
+        ),
+        Command::Sample { task } => sample(plan, tasks, task, harts, room, sink),
         Command::Evict { hart } => evict(plan, tasks, hart, harts, sink),
         Command::End => Ok(()),
     }

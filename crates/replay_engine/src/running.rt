@@ -1,11 +1,11 @@
 //! Steps of a task on a hart.
 
-ghost use Rattle.std.specs.Prelude.{◌≡◌, ℕ, ◌+◌, ◌-◌, ◌≤◌, ◌^◌, List, OnOk, OnErr};
+ghost use Rattle.std.specs.Prelude.{◌≡◌, ◌+◌, ◌-◌, ◌≤◌, ◌^◌, List, OnOk, OnErr};
 ghost use Rattle.ctr_port.specs.Appended.{GainsPart};
 ghost use Rattle.ctr_port.specs.Counts.{Rose};
 ghost use Rattle.guest_modes.specs.Words.{IsWithin};
 ghost use Rattle.rv_hart.specs.Task.{Irq, causes};
-ghost use Rattle.replay_engine.specs.Irqs.{place_of};
+ghost use Rattle.sched_text.specs.declared.limits.TheConstants.{MOST_STEPS};
 ghost use Rattle.replay_engine.specs.Parts.{RunMade, RunCut, next_due};
 ghost use Rattle.replay_engine.specs.Runs.{next_present, due_sample, due_cost, spellings};
 ghost use Rattle.replay_engine.specs.Tasks.{state_on};
@@ -14,6 +14,7 @@ use crate::irqs::Irqs;
 use crate::sampling::{Subject, write_sample};
 use crate::task::Task;
 use ctr_port::{Sink, WriteFault};
+use perf_sample::Buffer;
 use rv_hart::{Hart, Store};
 
 // One step of a task on a hart.
@@ -54,6 +55,7 @@ fn write_due<K: Sink>(
     task: &Task,
     subject: &Subject,
     due: &mut u64,
+    room: &mut Buffer,
     sink: &mut K,
 ) -> Result<(), WriteFault>
     requires room { hart.old.accesses + 2 ≤ 2 ^ 62 }
@@ -77,19 +79,22 @@ fn write_due<K: Sink>(
         return Ok(());
     }
     *due = next_due(subject.period, task.steps);
-    write_sample(hart, subject, task.steps, sink)
+    write_sample(hart, subject, task.steps, room, sink)
 }
 
-// Makes so many steps of a task on a hart, and writes the samples that its period wants.
+// Makes so many steps of a task on a hart, and writes the samples that its period wants. It is
+// never inlined: beside the moves of a command the compiler inlines less of a step into the loop.
+#[inline(never)]
 pub(crate) fn run_steps<K: Sink>(
     hart: &mut Hart<Store>,
     task: &mut Task,
     irqs: &Irqs,
     subject: &Subject,
     steps: u32,
+    room: &mut Buffer,
     sink: &mut K,
 ) -> Result<(), WriteFault>
-    requires few { steps ≤ 1000000000 }
+    requires few { steps ≤ MOST_STEPS }
     requires accesses { hart.old.accesses ≤ 2 ^ 61 + 5000 }
     requires hart_room { hart.old.steps ≤ 2 ^ 61 }
     requires task_room { task.old.steps ≤ 2 ^ 61 }
@@ -105,7 +110,7 @@ pub(crate) fn run_steps<K: Sink>(
     for _ in 0..steps {
         let pending = irqs.raised(&mut place, task.steps);
         step(hart, task, pending);
-        match write_due(hart, task, subject, &mut due, sink) {
+        match write_due(hart, task, subject, &mut due, room, sink) {
             Ok(()) => {}
             Err(fault) => return Err(fault),
         }

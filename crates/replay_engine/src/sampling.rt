@@ -9,7 +9,7 @@ ghost use Rattle.perf_sample.specs.Layout.{Fits, FlagsFit};
 ghost use Rattle.perf_sample.specs.Spelling.{spelling};
 ghost use Rattle.perf_sample.specs.declared.faults.Place.TheVariants as place;
 ghost use Rattle.replay_engine.specs.Samples.{misc_of, branch_of, kept, youngest_place};
-ghost use Rattle.replay_engine.specs.Samples.{hw_index_of, hw_index_cost, sample_by};
+ghost use Rattle.replay_engine.specs.Samples.{hw_index_cost, sample_by};
 
 use ctr_buffer::Slot;
 use ctr_csrs::{Mode, depth_of, entries, status_of};
@@ -163,27 +163,35 @@ pub(crate) fn sample(hart: &mut Hart<Store>, subject: &Subject, steps: u64) -> S
     }
 }
 
-// Writes a sample.
-fn write<K: Sink>(layout: Layout, sample: &Sample, sink: &mut K) -> Result<(), WriteFault>
+// Writes a sample, whose bytes are put into a room first.
+fn write<K: Sink>(
+    layout: Layout,
+    sample: &Sample,
+    room: &mut Buffer,
+    sink: &mut K,
+) -> Result<(), WriteFault>
     requires { Fits layout sample.now }
     ensures whole { OnOk result (K.gained sink.old (spelling layout sample.now) sink.new) }
-    ensures part { OnErr result (GainsPart K.gained sink.old sink.new (spelling layout sample.now)) }
+    ensures part { OnErr result (GainsPart K.gained sink.old sink.new
+        (spelling layout sample.now)) }
     ensures later { K.faults sink.old ≤ K.faults sink.new }
     ensures cause { OnErr result (Rose (K.faults sink.old) (K.faults sink.new)) }
 {
-    let mut out = Buffer::new();
-    encode(layout, sample, &mut out);
-    match write_whole(sink, out.as_slice()) {
+    encode(layout, sample, room);
+    match write_whole(sink, room.as_slice()) {
         Ok(()) => Ok(()),
         Err(fault) => Err(fault),
     }
 }
 
-// Writes the sample of a task that made so many steps.
+// Writes the sample of a task that made so many steps. It is never inlined, since a function clears
+// the room of all that is inlined into it when it begins.
+#[inline(never)]
 pub(crate) fn write_sample<K: Sink>(
     hart: &mut Hart<Store>,
     subject: &Subject,
     steps: u64,
+    room: &mut Buffer,
     sink: &mut K,
 ) -> Result<(), WriteFault>
     requires { hart.old.accesses + 2 ≤ 2 ^ 62 }
@@ -203,5 +211,5 @@ pub(crate) fn write_sample<K: Sink>(
     ensures cause { OnErr result (Rose (K.faults sink.old) (K.faults sink.new)) }
 {
     let sample = sample(hart, subject, steps);
-    write(subject.layout, &sample, sink)
+    write(subject.layout, &sample, room, sink)
 }

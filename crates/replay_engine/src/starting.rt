@@ -4,6 +4,7 @@ ghost use Rattle.rv_hart.specs.Task.{Irq};
 ghost use Rattle.perf_sample.specs.Layout.{IsLayout, IsBranchWord};
 ghost use Rattle.sched_text.specs.Rows.{IsTask};
 ghost use Rattle.replay_engine.specs.Tasks.{state_off};
+ghost use Rattle.replay_engine.specs.Engine.{HasWholeArea};
 ghost use Rattle.replay_engine.specs.Irqs.{AreIrqs};
 ghost use Rattle.replay_engine.specs.Start.{fresh_task, fresh_tasks, depth_named, task_of_line};
 ghost use Rattle.replay_engine.specs.Start.{first_present, irqs_of, orders_from};
@@ -70,6 +71,7 @@ fn depth_named(code: u8) -> Depth
 fn first_task(line: TaskLine, mem: TaskMem) -> Task
     requires { line.depth ≤ 4 }
     ensures task { result ≡ fresh_task line mem }
+    ensures whole { HasWholeArea result }
     ensures state { (image : List ℕ) (irqs : List Irq) → mem ≡ memory_of image line.mem →
         state_off result ≡ first_present (task_of_line line image irqs) }
 {

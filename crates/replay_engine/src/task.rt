@@ -22,7 +22,13 @@ impl Model for Task {
 
     ghost Value = { TaskState };
 
-    ghost view = { λ t. record { steps = t.steps; mem = t.mem; core = t.core; area = t.area; place = t.place } };
+    ghost view = { λ t. record {
+      steps = t.steps;
+      mem = t.mem;
+      core = t.core;
+      area = t.area;
+      place = t.place;
+    } };
 
     ghost invariant = { λ t. IsWhole t.area };
 }

@@ -1,12 +1,13 @@
 // The tasks of an engine, on harts and off them.
 ghost use Rattle.std.specs.Prelude.{◌≡◌, ℕ, ◌+◌, ◌*◌, ◌≤◌, ◌<◌, ◌^◌, List, Option, Some, None};
 ghost use Rattle.std.specs.Prelude.{length, slice_get, slice_set};
-ghost use Rattle.std.specs.Bool.{OnTrue, OnFalse};
+ghost use Rattle.std.specs.List.{All};
 ghost use Rattle.ctr_csrs.specs.Depths.{entries_of};
 ghost use Rattle.rv_hart.specs.Hart.{HartState};
 ghost use Rattle.task_switch.specs.SaveArea.{area_of, unit_in};
 ghost use Rattle.task_switch.specs.WhilePassing.{with_last_select};
 ghost use Rattle.replay_engine.specs.Counts.{HasRoom};
+ghost use Rattle.replay_engine.specs.Engine.{HasWholeArea};
 ghost use Rattle.replay_engine.specs.Tasks.{TaskState, places, residents, PlacesAgree};
 ghost use Rattle.replay_engine.specs.View.{view_of, after_leaving, after_arriving, after_parting};
 ghost use Rattle.replay_engine.specs.View.{after_freeing, after_bringing, is_at};
@@ -24,16 +25,25 @@ pub(crate) struct Tasks {
 
 impl Model for Tasks {
     ghost use Rattle.std.specs.Prelude.{List, ◌≤◌, length};
+    ghost use Rattle.std.specs.List.{All};
+    ghost use Rattle.replay_engine.specs.Engine.{HasWholeArea};
     ghost use Rattle.replay_engine.specs.Tasks.{TaskState};
 
     ghost Value = { List TaskState };
 
     ghost view = { λ t. t.list.items };
 
-    ghost invariant = { λ t. length t.list.items ≤ 64 };
+    ghost invariant = { λ t. (length t.list.items ≤ 64) × All HasWholeArea t.list.items };
 }
 
 impl Tasks {
+    // The save area of each holds a unit: a proof and no work.
+    pub(crate) fn facts(&self)
+        ensures { All HasWholeArea self.now }
+    {
+        let _list = &self.list;
+    }
+
     // How many there are.
     pub(crate) fn count(&self) -> u64
         ensures count { result ≡ length self.now }
@@ -57,7 +67,8 @@ impl Tasks {
         requires room { HasRoom (2 ^ 62) (view_of self.old harts.old) }
         ensures task { (x : TaskState) (y : HartState) → slice_get self.old t ≡ Some x →
             slice_get harts.old h ≡ Some y → self.new
-            ≡ slice_set self.old t (record x { core = y.core; area = area_of y.unit; place = None }) }
+            ≡ slice_set self.old t
+            (record x { core = y.core; area = area_of y.unit; place = None }) }
         ensures hart { (x : TaskState) (y : HartState) → slice_get self.old t ≡ Some x →
             slice_get harts.old h ≡ Some y → harts.new
             ≡ slice_set harts.old h (record y {
@@ -117,7 +128,8 @@ impl Tasks {
         requires nowhere { slice_get (places self.old) t ≡ Some None }
         requires free { slice_get (residents harts.old) h ≡ Some None }
         requires room { HasRoom (2 ^ 62) (view_of self.old harts.old) }
-        ensures view { view_of self.new harts.new ≡ after_arriving t h (view_of self.old harts.old) }
+        ensures view { view_of self.new harts.new
+            ≡ after_arriving t h (view_of self.old harts.old) }
         ensures kept { PlacesAgree self.new harts.new }
         ensures others { (k : ℕ) → (k ≡ h → ⊥) → slice_get harts.new k ≡ slice_get harts.old k }
         ensures places { places self.new ≡ slice_set (places self.old) t (Some h) }
@@ -204,7 +216,8 @@ impl Tasks {
         requires task { t < length self.old }
         requires hart { h < 16 }
         requires room { HasRoom (2 ^ 61) (view_of self.old harts.old) }
-        ensures view { view_of self.new harts.new ≡ after_bringing t h (view_of self.old harts.old) }
+        ensures view { view_of self.new harts.new
+            ≡ after_bringing t h (view_of self.old harts.old) }
         ensures kept { PlacesAgree self.new harts.new }
         ensures others { (k : ℕ) → (k ≡ h → ⊥) → (slice_get (places self.old) t ≡ Some (Some k) → ⊥)
             → slice_get harts.new k ≡ slice_get harts.old k }

@@ -1,8 +1,9 @@
 // Schedules with the samples that they give, and what they leave.
 use super::{
-    CALL, Case, LOOP, Schedule, TASK_0, TASK_1, Taken, Wanted, begin_schedule, check_all, leaves,
-    spell,
+    CALL, Case, LOOP, Schedule, TASK_0, TASK_1, Taken, Wanted, answers, append_images,
+    append_lines, begin, begin_schedule, check_all, leaves, spell,
 };
+use ctr_port::MemSink;
 use replay_engine::PerformFault;
 use std::alloc::Global;
 use std::process::Abort;
@@ -324,6 +325,61 @@ fn schedules_give_their_samples_and_leave_their_harts(rt: HostRuntime) -> Result
     check_all(&rt, rt.alloc(), &CASES)
 }
 
+// The sample of a call with the place of its entry, byte for byte: type 9, misc 3, size 64; ip; pid
+// and tid; one branch; hw_index; from, to, flags.
+const INDEXED_CALL: [u8; 64] = [
+    0x09, 0, 0, 0, 0x03, 0, 0x40, 0, //
+    0x08, 0, 0, 0x80, 0, 0, 0, 0, //
+    0x01, 0, 0, 0, 0x01, 0, 0, 0, //
+    0x01, 0, 0, 0, 0, 0, 0, 0, //
+    0, 0, 0, 0, 0, 0, 0, 0, //
+    0, 0, 0, 0x80, 0, 0, 0, 0, //
+    0x08, 0, 0, 0x80, 0, 0, 0, 0, //
+    0, 0, 0x40, 0, 0, 0, 0, 0,
+];
+
+// The same before the first step, without a branch: size 40.
+const INDEXED_NONE: [u8; 40] = [
+    0x09, 0, 0, 0, 0x03, 0, 0x28, 0, //
+    0, 0, 0, 0x80, 0, 0, 0, 0, //
+    0x01, 0, 0, 0, 0x01, 0, 0, 0, //
+    0, 0, 0, 0, 0, 0, 0, 0, //
+    0xFF, 0xFF, 0xFF, 0xFF, 0xFF, 0xFF, 0xFF, 0xFF,
+];
+
+// Performs a schedule, and compares what it wrote byte for byte.
+fn bytes_are(
+    rt: &impl Abort,
+    alloc: Global,
+    name: &str,
+    schedule: &Schedule,
+    want: &[u8],
+) -> Result<(), Fail> {
+    let mut play = begin_schedule(rt, alloc, schedule)?;
+    answers(rt, name, &mut play, &[]);
+    assert_eq!(rt; play.sink.bytes(), want, "{name}");
+    Ok(())
+}
+
+const ONE_STEP: Schedule = Schedule {
+    head: INDEXED,
+    images: &[CALL],
+    commands: &[("run 0 0 1\nsample 0\n", 1)],
+};
+
+const NO_STEP: Schedule = Schedule {
+    commands: &[("run 0 0 0\nsample 0\n", 1)],
+    ..ONE_STEP
+};
+
+#[test]
+fn samples_with_the_place_of_the_youngest_entry_are_these_bytes(
+    rt: HostRuntime,
+) -> Result<(), Fail> {
+    bytes_are(&rt, rt.alloc(), "a call", &ONE_STEP, &INDEXED_CALL)?;
+    bytes_are(&rt, rt.alloc(), "no branch", &NO_STEP, &INDEXED_NONE)
+}
+
 // Calls 80000008, and from then on loops between 80000004 and a return at 80000008.
 const RETURNS: &[u32] = &[0x0080_00EF, 0x0000_0013, 0x0000_8067];
 
@@ -335,11 +391,12 @@ const ROUND_2: &str = "run 2 0 250000\nrun 3 1 250000\nrun 0 2 250000\nrun 1 3 2
 
 const ROUND_3: &str = "run 3 0 250000\nrun 0 1 250000\nrun 1 2 250000\nrun 2 3 250000\n";
 
-// Four tasks with a sample after each 10,000 steps go around four harts, 250,000 steps at a time.
+// Four tasks with images as large as their memories and a sample after each 10,000 steps go around
+// four harts, 250,000 steps at a time.
 const LONG: Schedule = Schedule {
     head: &[
         ("ctr-schedule 1\nharts 4\nlayout 10bcf\n", 1),
-        ("task 12 65536 2 4 0 10000\n", 4),
+        ("task 65536 65536 2 4 0 10000\n", 4),
     ],
     images: &[RETURNS, RETURNS, RETURNS, RETURNS],
     commands: &[
@@ -355,6 +412,22 @@ const LONG: Schedule = Schedule {
         (ROUND_1, 1),
     ],
 };
+
+// The text of that schedule, with zeros behind the instructions of each image.
+fn long_text(alloc: Global) -> Result<Vec<u8>, Fail> {
+    let mut text = Vec::new(alloc);
+    append_lines(&mut text, LONG.head)?;
+    text.extend_from_slice(b"images\n")?;
+    for image in LONG.images {
+        append_images(&mut text, &[*image])?;
+        for _ in 0..65_524 {
+            text.push(0)?;
+        }
+    }
+    append_lines(&mut text, LONG.commands)?;
+    text.extend_from_slice(b"end\n")?;
+    Ok(text)
+}
 
 // Of each command, of each of its 25 samples: identifier, ip, pid and tid, time, addr, id,
 // stream_id, cpu, period.
@@ -375,8 +448,10 @@ fn long_samples(alloc: Global) -> Result<Vec<u8>, Fail> {
 
 #[test]
 fn a_thousand_samples_of_four_tasks(rt: HostRuntime) -> Result<(), Fail> {
-    let mut play = begin_schedule(&rt, rt.alloc(), &LONG)?;
-    super::answers(&rt, "a long run", &mut play, &[]);
+    let text = long_text(rt.alloc())?;
+    let sink = MemSink::new(rt.alloc(), 1 << 21, &[], &[])?;
+    let mut play = begin(&rt, rt.alloc(), &text, sink)?;
+    answers(&rt, "a long run", &mut play, &[]);
     let want = long_samples(rt.alloc())?;
     assert_eq!(rt; want.len(), 1_624_000);
     assert!(rt;

@@ -1,10 +1,12 @@
-use Rattle.replay_engine.proofs.AtLaws.{standing_harts_are_at}
+use Rattle.replay_engine.proofs.AtLaws.{standing_harts_are_at, residents_are_lone}
 use Rattle.replay_engine.proofs.EngineLaws.{moves_keep_states, presents_are_steps, runs_join}
 use Rattle.replay_engine.proofs.EngineLaws.{refusals_agree, states_are_lone, samples_join}
 use Rattle.replay_engine.proofs.EngineLaws.{samples_are_own, commands_add_little, counts_loosen}
 use Rattle.replay_engine.proofs.EngineLaws.{headers_give_interrupts}
 use Rattle.replay_engine.proofs.BreakLaws.{accepted_or_broken}
-use Rattle.replay_engine.proofs.VisibleLaws.{samples_are_lone}
+use Rattle.replay_engine.proofs.VisibleLaws.{samples_are_lone, samples_are_given}
+use Rattle.replay_engine.proofs.LineLaws.{plans_say_headers, headers_give_tasks}
+use Rattle.replay_engine.proofs.LineLaws.{headers_give_sound_tasks, commands_give_lone_samples}
 use Rattle.replay_engine.proofs.PlacingLaws.{places_are_told}
 use Rattle.replay_engine.proofs.laws.engine_laws.Goals as goal
 
@@ -49,3 +51,21 @@ returns-clause-breaks c = accepted_or_broken
 
 pub returns-clause-visible : goal.returns-clause-visible
 returns-clause-visible c = samples_are_lone c.lone_run_laws.ensures.visible
+
+pub returns-clause-given : goal.returns-clause-given
+returns-clause-given c = samples_are_given c.lone_run_laws.ensures.visible
+
+pub returns-clause-residents : goal.returns-clause-residents
+returns-clause-residents c = residents_are_lone
+
+pub returns-clause-plans : goal.returns-clause-plans
+returns-clause-plans c = plans_say_headers
+
+pub returns-clause-tasks : goal.returns-clause-tasks
+returns-clause-tasks c = headers_give_tasks
+
+pub returns-clause-sound : goal.returns-clause-sound
+returns-clause-sound c = headers_give_sound_tasks
+
+pub returns-clause-scheduled : goal.returns-clause-scheduled
+returns-clause-scheduled c = commands_give_lone_samples

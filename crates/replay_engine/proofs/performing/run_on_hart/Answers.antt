@@ -1,9 +1,13 @@
-use Rattle.std.proofs.Common.{refl, ◌+◌, ◌^◌, List, length, ap, ◌∙◌, arith}
+use Rattle.std.proofs.Common.{refl, ◌+◌, ◌<◌, ◌^◌, List, length, sym, ap, subst, ◌∙◌, arith}
 use Rattle.std.specs.Prelude.{slice_set}
 use Rattle.std.proofs.lemmas.List.{length-set}
+use Rattle.std.proofs.lemmas.List.Elements.{All-set, All-get_or}
+use Rattle.task_switch.specs.SaveArea.{IsWhole}
+use Rattle.replay_engine.specs.Engine.{HasWholeArea}
 use Rattle.replay_engine.specs.Tasks.{TaskState}
 use Rattle.replay_engine.proofs.Items.{got_item, on_ok, on_err}
 use Rattle.replay_engine.proofs.Lifts.{room_at, steps_room, count_at}
+use Rattle.replay_engine.proofs.Loops.{area_stays}
 use Rattle.replay_engine.proofs.performing.run_on_hart.Goals as goal
 
 pub run_steps-requires-clause-accesses : goal.run_steps-requires-clause-accesses
@@ -65,3 +69,21 @@ pub returns-clause-size : goal.returns-clause-size
 returns-clause-size g c =
     length-set c.tasks.inside.list.items c.args.subject.now.task c.run_steps.new.task
     ∙ ap length c.tasks.view_is
+
+pub invariant_of-tasks : goal.invariant_of-tasks
+invariant_of-tasks g c =
+    let items = c.tasks.inside.list.items in
+    let t = c.args.subject.now.task in
+    let x = c.index_mut.result.now in
+    let x' = c.run_steps.new.task in
+    let within : t < length items =
+    omega (arith, c.requires.task, ap (λ (ts : List TaskState). length ts) c.tasks.view_is) in
+    let old : HasWholeArea x =
+    subst HasWholeArea (sym c.index_mut.ensures.value)
+    (All-get_or HasWholeArea items t x within c.tasks.invariant.1) in
+    let kept = area_stays g.K.Sink.gained c.args.sink.now c.run_steps.new.sink
+    c.hart_mut.result.now c.run_steps.new.hart x x' c.args.subject.now c.args.orders.now.irqs
+    c.args.steps c.run_steps.result c.run_steps.ensures.whole c.run_steps.ensures.part in (
+      omega (arith, length-set items t x', c.tasks.invariant.0),
+      All-set HasWholeArea items t x' (subst IsWhole (sym kept) old) c.tasks.invariant.1,
+    )

@@ -1,6 +1,9 @@
 use Rattle.std.proofs.Common.{◌≡◌, ℕ, ◌<◌, ◌≤◌, List, [], ◌∷◌, ◌++◌, length, take}
-use Rattle.std.proofs.Common.{sym, ap, ◌∙◌, arith, length-append, append_assoc}
+use Rattle.std.proofs.Common.{sym, ap, subst, ◌∙◌, arith, length-append, append_assoc}
+use Rattle.std.specs.List.{All}
 use Rattle.std.proofs.lemmas.List.{take_more, length-take-le}
+use Rattle.std.proofs.lemmas.List.Elements.{All-push}
+use Rattle.replay_engine.specs.Engine.{HasWholeArea}
 use Rattle.sched_text.specs.declared.schedule.TaskLine.{TaskLine}
 use Rattle.replay_engine.specs.Tasks.{TaskState}
 use Rattle.replay_engine.specs.Start.{fresh_tasks}
@@ -37,16 +40,18 @@ invariant_of-result c =
       ap length c.items-lines.ensures,
     ) in
     let same : length (take c.loop-mem.i lines)
-    ≡ length c.loop-mem.yielded = length-take-le c.loop-mem.i lines within ∙ inv.count in
-    omega (
-      arith,
-      ap length inv.made,
-      length-fresh_tasks (take c.loop-mem.i lines)
-          c.loop-mem.yielded same,
-      length-take-le c.loop-mem.i lines within,
-      within,
-      c.requires.few,
-      ap length c.items-lines.ensures,
+    ≡ length c.loop-mem.yielded = length-take-le c.loop-mem.i lines within ∙ inv.count in (
+      omega (
+        arith,
+        ap length inv.made,
+        length-fresh_tasks (take c.loop-mem.i lines)
+            c.loop-mem.yielded same,
+        length-take-le c.loop-mem.i lines within,
+        within,
+        c.requires.few,
+        ap length c.items-lines.ensures,
+      ),
+      inv.whole,
     )
 
 pub loop-mem-preserved : goal.loop-mem-preserved
@@ -78,6 +83,10 @@ loop-mem-preserved c =
           ∙ sym (firsts_more (take i lines) ms _ m same)
           ∙ ap (λ (ls : List TaskLine). fresh_tasks ls (ms ++ m ∷ []))
           (sym (take_more lines i _ within));
+      whole =
+          subst (All HasWholeArea) (sym c.in_ok-push.ensures.items)
+          (All-push HasWholeArea c.loop-mem.list.items c.first_task.result inv.whole
+          c.first_task.ensures.whole);
       count = omega (arith, inv.count, length-append ms (m ∷ []));
       split = inv.split ∙ ap (λ (xs : List (List ℕ)). ms ++ xs) c.in-Some.ensures.steps.0
           ∙ sym (append_assoc ms (m ∷ []) c.next.new.self.rest.items);

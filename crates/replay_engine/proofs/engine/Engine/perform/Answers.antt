@@ -6,7 +6,7 @@ use Rattle.replay_engine.specs.StandsAfter.{StandsAfter}
 use Rattle.replay_engine.specs.View.{view_of}
 use Rattle.replay_engine.proofs.AfterLaws.{counts_after, stands_after}
 use Rattle.replay_engine.proofs.FactLaws.{facts_kept}
-use Rattle.replay_engine.proofs.VisibleLaws.{samples_are_lone}
+use Rattle.replay_engine.proofs.VisibleLaws.{samples_are_lone, samples_are_given}
 use Rattle.replay_engine.proofs.engine.Engine.perform.Goals as goal
 
 pub invariant_of-self : goal.invariant_of-self
@@ -16,7 +16,7 @@ invariant_of-self g c =
     c.attempt-result.new.tasks c.args.harts.now
     c.attempt-result.new.harts c.args.command c.attempt-result.result e.broken _
     c.step_laws.ensures.size
-    c.attempt-result.ensures.outcome c.self.invariant
+    c.attempt-result.ensures.outcome c.facts.ensures c.self.invariant
 
 pub returns-clause-stands : goal.returns-clause-stands
 returns-clause-stands g c = λ first commands stands.
@@ -48,4 +48,9 @@ returns-clause-counts g c = λ accesses steps own within.
 pub returns-clause-visible : goal.returns-clause-visible
 returns-clause-visible g c = λ tasks commands ordered.
     samples_are_lone c.lone_run_laws.ensures.visible c.args.self.now.plan tasks commands
+    c.args.command ordered
+
+pub returns-clause-given : goal.returns-clause-given
+returns-clause-given g c = λ tasks commands ordered.
+    samples_are_given c.lone_run_laws.ensures.visible c.args.self.now.plan tasks commands
     c.args.command ordered

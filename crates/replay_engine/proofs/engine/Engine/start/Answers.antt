@@ -1,9 +1,12 @@
 use Rattle.std.proofs.Common.{◌≡◌, ℕ, List, [], false, length, sym, ap, ◌∙◌, subst}
+use Rattle.std.specs.List.{All}
+use Rattle.perf_sample.specs.Layout.{LayoutWords}
 use Rattle.rv_hart.specs.Hart.{fresh_harts}
 use Rattle.replay_engine.specs.Counts.{CountsWithin}
-use Rattle.replay_engine.specs.Engine.{IsEngine}
+use Rattle.replay_engine.specs.declared.plan.Orders.{Orders}
+use Rattle.replay_engine.specs.Engine.{IsEngine, HasWholeArea}
 use Rattle.replay_engine.specs.Stands.{StandsFor}
-use Rattle.replay_engine.specs.Start.{fresh_tasks}
+use Rattle.replay_engine.specs.Start.{fresh_tasks, plan_of}
 use Rattle.replay_engine.specs.Tasks.{TaskState, PlacesAgree, present_states}
 use Rattle.replay_engine.specs.View.{Plan, view_of}
 use Rattle.replay_engine.proofs.FirstLaws.{length-fresh_tasks}
@@ -29,10 +32,29 @@ invariant_of-result c =
       tasks =
           c.in_ok-orders.orders.items;
     } in
-    subst (λ (ts : List TaskState). IsEngine (record { plan = plan; tasks = ts; broken = false }))
-    (sym c.in_ok-tasks.ensures)
-    (started_facts plan h.tasks c.args.mems h.irqs c.in_ok-orders.ensures c.requires.header.harts
-    c.requires.header.few c.requires.mems)
+    let same : plan ≡ plan_of h =
+    ap (λ (l : LayoutWords). record {
+      harts = h.harts;
+      layout = l;
+      tasks = c.in_ok-orders.orders.items;
+    }) c.layout_of-layout.ensures
+    ∙ ap (λ (os : List Orders). record {
+      harts = h.harts;
+      layout = record { sample_type = h.layout; branch = h.branch };
+      tasks = os;
+    }) c.in_ok-orders.ensures in
+    subst (λ (p : Plan). IsEngine (record {
+      plan = p;
+      tasks = c.in_ok-tasks.tasks;
+      broken = false;
+    })) (sym same)
+    (subst (λ (ts : List TaskState). IsEngine (record {
+      plan = plan_of h;
+      tasks = ts;
+      broken = false;
+    })) (sym c.in_ok-tasks.ensures)
+    (started_facts h c.args.mems c.requires.header c.requires.mems
+    (subst (All HasWholeArea) c.in_ok-tasks.ensures c.facts.ensures)))
 
 pub returns-clause-stands : goal.returns-clause-stands
 returns-clause-stands c =

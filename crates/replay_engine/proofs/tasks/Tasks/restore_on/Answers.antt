@@ -1,8 +1,11 @@
-use Rattle.std.proofs.Common.{◌+◌, ◌*◌, ◌^◌, sym, ◌∙◌}
+use Rattle.std.proofs.Common.{◌+◌, ◌*◌, ◌^◌, sym, ◌∙◌, arith}
+use Rattle.std.proofs.lemmas.List.{length-set}
+use Rattle.std.proofs.lemmas.List.Elements.{All-set}
 use Rattle.std.specs.Prelude.{Some}
 use Rattle.ctr_csrs.specs.Depths.{entries_of}
 use Rattle.rv_hart.specs.Hart.{HartState}
 use Rattle.task_switch.specs.SaveArea.{unit_in}
+use Rattle.replay_engine.specs.Engine.{HasWholeArea}
 use Rattle.replay_engine.specs.Tasks.{TaskState}
 use Rattle.replay_engine.proofs.Items.{got_item, some_of}
 use Rattle.replay_engine.proofs.Lifts.{room_at, lift_task, lift_hart}
@@ -41,3 +44,10 @@ returns-clause-hart c = λ x y at got.
     c.index_mut.result.now x c.hart_mut.result.now y c.put_on.new.hart c.put_on.ensures.hart
     (some_of c.index_mut.result.now x (sym there ∙ at))
     (some_of c.hart_mut.result.now y (sym c.hart_mut.ensures.hart ∙ got))
+
+pub invariant_of-self : goal.invariant_of-self
+invariant_of-self c =
+    let items = c.self.inside.list.items in (
+      omega (arith, length-set items c.args.t c.put_on.new.task, c.self.invariant.0),
+      All-set HasWholeArea items c.args.t c.put_on.new.task c.put_on.ensures.whole c.self.invariant.1,
+    )
