@@ -1,13 +1,17 @@
-//! The program: `ctrsim run` reads a schedule from standard input and writes samples to standard output; `ctrsim show`
-//! reads samples and writes their text.
+//! The program: `ctrsim run` reads a schedule from standard input and writes samples to standard
+//! output; `ctrsim show` reads samples and writes their text; `ctrsim demo` performs a schedule of
+//! its own and writes what its samples come to.
 #![tactic(auto)]
 
+mod array_reader;
+
+use array_reader::ArrayReader;
 use ctr_port::{StdSink, StdSource, write_whole};
 use ctrsim_cli::ctrsim;
 use rv_hart::Harts;
 use std::alloc::AllocError;
 use std::env;
-use std::io::{BufReader, ErrorKind};
+use std::io::ErrorKind;
 use std::process::ExitCode;
 
 // The arguments after the program's name.
@@ -50,13 +54,10 @@ fn main(rt: HostRuntime) -> ExitCode {
         Words::NoMemory => return stop(&rt, b"ctrsim: no memory\n", 7),
         Words::Unreadable => return stop(&rt, b"ctrsim: cannot read arguments\n", 14),
     };
-    let Ok(reader) = BufReader::new(rt.alloc(), rt.stdin()) else {
-        return stop(&rt, b"ctrsim: no memory\n", 7);
-    };
     let Ok(mut harts) = Harts::new(rt.alloc()) else {
         return stop(&rt, b"ctrsim: no memory\n", 7);
     };
-    let mut source = StdSource::new(reader);
+    let mut source = StdSource::new(ArrayReader::new(rt.stdin()));
     let mut sink = StdSink::new(rt.stdout());
     let mut notes = StdSink::new(rt.stderr());
     let outcome = ctrsim(

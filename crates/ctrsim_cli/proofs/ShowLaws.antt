@@ -17,12 +17,12 @@ use Rattle.perf_sample.specs.declared.sample.Sample.{Sample}
 use Rattle.perf_sample.proofs.ExactLaws.{clash, spelled_some}
 use Rattle.ctrsim_cli.specs.declared.fault.Fault.{Fault}
 use Rattle.ctrsim_cli.specs.declared.fault.Fault.TheVariants.{Usage, ReadFault, WriteFault, Memory}
-use Rattle.ctrsim_cli.specs.declared.fault.Fault.TheVariants.{OtherForm, Sample as BadSample}
+use Rattle.ctrsim_cli.specs.declared.fault.Fault.TheVariants.{Line, Sample as BadSample}
 use Rattle.ctrsim_cli.specs.Fault.{status_of}
 use Rattle.ctrsim_cli.specs.Performed.{ReadCause, WriteCause}
 use Rattle.ctrsim_cli.specs.ShowEnds.{ShowEnds}
 use Rattle.ctrsim_cli.specs.Showing.{joined, AreSpelled, Refused}
-use Rattle.ctrsim_cli.specs.Words.{IsRun, IsShow}
+use Rattle.ctrsim_cli.specs.Words.{IsRun, IsShow, IsDemo}
 use Rattle.perf_sample.proofs.OneSpelling.{one_spelling}
 use Rattle.ctrsim_cli.proofs.Longest.{joined_cons, joined_empty, cons_front, taken_told}
 use Rattle.ctrsim_cli.proofs.Shows.{One, joined_none}
@@ -51,6 +51,12 @@ one_layout (word ∷ (hex ∷ (branch ∷ []))) a b p q =
     layout_is a.sample_type b.sample_type a.branch b.branch
     (p.1.0.value ∙ sym q.1.0.value) (p.2.0.value ∙ sym q.2.0.value)
 one_layout (word ∷ (hex ∷ (branch ∷ (more ∷ words)))) a b p q = absurd p
+
+pub one_number : {A : Type 0} (words : List (String A)) (m n : ℕ) → IsDemo words m → IsDemo words n → m ≡ n
+one_number [] m n p q = absurd p
+one_number (word ∷ []) m n p q = absurd p
+one_number (word ∷ (number ∷ [])) m n p q = p.1.digits.value ∙ sym q.1.digits.value
+one_number (word ∷ (number ∷ (more ∷ words))) m n p q = absurd p
 
 -- what is left of a join of spellings behind some of them is the join of the others
 left_over : (layout : LayoutWords) (xs ys : List Sample) (rest : List ℕ) → AreSpelled layout xs
@@ -147,7 +153,7 @@ ends_shown gained layout left left' old new r r' w w' (Some WriteFault) ys is sp
     write kept sent = absurd (sent write)
 ends_shown gained layout left left' old new r r' w w' (Some Memory) ys is spelled few so read write
     kept sent = absurd so
-ends_shown gained layout left left' old new r r' w w' (Some OtherForm) ys is spelled few so read write
+ends_shown gained layout left left' old new r r' w w' (Some (Line f)) ys is spelled few so read write
     kept sent = absurd so
 ends_shown gained layout left left' old new r r' w w' (Some (BadSample at f)) ys is spelled few so
     read write kept sent =

@@ -5,8 +5,10 @@ use Rattle.perf_sample.specs.declared.faults.Place.TheVariants as place
 use Rattle.perf_sample.specs.declared.faults.SampleFault.{SampleFault}
 use Rattle.perf_sample.specs.declared.faults.SampleFault.TheVariants as sample
 use Rattle.ctrsim_cli.specs.declared.fault.Fault.{Fault}
-use Rattle.ctrsim_cli.specs.declared.fault.Fault.TheVariants.{Usage, ReadFault, WriteFault, Memory}
-use Rattle.ctrsim_cli.specs.declared.fault.Fault.TheVariants.{OtherForm, Sample}
+use Rattle.sched_text.specs.declared.faults.Reason.{Reason}
+use Rattle.sched_text.specs.declared.faults.Reason.TheVariants as reason
+use Rattle.ctrsim_cli.specs.declared.fault.Fault.TheVariants.{Usage, ReadFault, WriteFault, Line}
+use Rattle.ctrsim_cli.specs.declared.fault.Fault.TheVariants.{Memory, Sample}
 use Rattle.ctrsim_cli.specs.SampleText.{dec}
 
 abbrev pub status_of : Option Fault → ℕ
@@ -14,9 +16,9 @@ status_of None = 0
 status_of (Some Usage) = 2
 status_of (Some ReadFault) = 3
 status_of (Some WriteFault) = 4
+status_of (Some (Line f)) = 5
 status_of (Some (Sample at fault)) = 6
 status_of (Some Memory) = 7
-status_of (Some OtherForm) = 9
 
 -- the name of a field, with the number of its branch
 unfoldable pub place_text : Place → List ℕ
@@ -47,12 +49,27 @@ broken_text (sample.FlagReserved i) = codes "reserved flags in branch " ++ dec i
 broken_text sample.TooMany = codes "too many samples"
 broken_text sample.ReadFault = codes "cannot read"
 
+-- why a line is refused
+unfoldable pub reason_text : Reason → List ℕ
+reason_text reason.LongLine = codes "too long"
+reason_text reason.Cut = codes "input ended"
+reason_text reason.NotWord = codes "unexpected words"
+reason_text reason.NotNumber = codes "not a number"
+reason_text reason.Range = codes "out of range"
+reason_text reason.TooMany = codes "too many"
+reason_text reason.NoTask = codes "no such task"
+reason_text reason.NoHart = codes "no such hart"
+reason_text reason.NotResident = codes "task is on no hart"
+reason_text reason.EmptyHart = codes "hart has no task"
+reason_text reason.IrqOrder = codes "interrupts out of order"
+reason_text reason.Trailing = codes "input goes on"
+
 abbrev pub text_of : Fault → List ℕ
-text_of Usage = codes "usage: ctrsim run | show HEX | demo N"
+text_of Usage = codes "usage: ctrsim run | show HEX [BRANCH] | demo N"
 text_of ReadFault = codes "cannot read"
 text_of WriteFault = codes "cannot write"
 text_of Memory = codes "no memory"
-text_of OtherForm = codes "other form"
+text_of (Line f) = codes "line " ++ dec f.line ++ codes ": " ++ reason_text f.reason
 text_of (Sample at fault) = codes "sample at " ++ dec at ++ codes ": " ++ broken_text fault
 
 -- one line, with the program's name before it

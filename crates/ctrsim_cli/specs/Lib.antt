@@ -1,18 +1,16 @@
--- What a reader must believe: Words; SmallForm with Lines, Numbers, Irqs and Form, Sample, Left and
--- Ended for `run`; SampleText and Showing for `show`; and Fault. Performed ties private functions to
--- them, and Worked has two runs by hand.
-pub mod Lines
+-- What a reader must believe: Words with Numbers; Schedule, Says and RunEnds for `run`; SampleText,
+-- Showing and ShowEnds for `show`; Demo for `demo`; and Fault. Performed, Parts and Counted tie
+-- private functions to them.
 pub mod Numbers
-pub mod Irqs
-pub mod SmallForm
-pub mod Sample
+pub mod Words
 pub mod Fault
-pub mod Form
-pub mod Left
-pub mod Ended
-pub mod Performed
-pub mod Worked
+pub mod Schedule
+pub mod Says
+pub mod RunEnds
 pub mod SampleText
 pub mod Showing
-pub mod Words
 pub mod ShowEnds
+pub mod Demo
+pub mod Counted
+pub mod Performed
+pub mod Parts

@@ -1,42 +1,10 @@
 -- What the parts of the top call leave, by the fault that they answer.
 use Rattle.std.specs.Prelude.{◌≡◌, ℕ, ◌≤◌, ◌⊎◌, List, length, take, Option, None, Some}
 use Rattle.ctr_port.specs.Counts.{Rose}
-use Rattle.ctr_port.specs.Appended.{GainsPart}
 use Rattle.perf_sample.specs.declared.faults.SampleFault.{SampleFault}
 use Rattle.perf_sample.specs.declared.faults.SampleFault.TheVariants as sample
-use Rattle.rv_hart.specs.Hart.{HartState}
 use Rattle.ctrsim_cli.specs.declared.fault.Fault.{Fault}
-use Rattle.ctrsim_cli.specs.declared.fault.Fault.TheVariants.{Usage, ReadFault, WriteFault, Memory}
-use Rattle.ctrsim_cli.specs.declared.fault.Fault.TheVariants.{OtherForm, Sample}
-use Rattle.ctrsim_cli.specs.SmallForm.{Schedule, IsSmallForm}
-use Rattle.ctrsim_cli.specs.Left.{output, ran_harts}
-use Rattle.ctrsim_cli.specs.Ended.{Says, Nothing}
-
--- a schedule was run
-abbrev pub Performed : {K : Type 0} → (K → List ℕ → K → Type 0) → K → K → List HartState → Schedule → Option Fault → Type 0
-Performed gained old new harts s None = gained old (output s) new × (harts ≡ ran_harts s)
-Performed gained old new harts s (Some WriteFault) = GainsPart gained old new (output s) × (harts ≡ ran_harts s)
-Performed gained old new harts s (Some Memory) = Nothing gained old new harts
-Performed gained old new harts s (Some Usage) = ⊥
-Performed gained old new harts s (Some ReadFault) = ⊥
-Performed gained old new harts s (Some OtherForm) = ⊥
-Performed gained old new harts s (Some (Sample at fault)) = ⊥
-
--- a schedule was found in the text and run
-pub record Found {K : Type 0} (gained : K → List ℕ → K → Type 0) (old new : K) (harts : List HartState) (text : List ℕ) (fault : Option Fault) : Type 0 where
-  pub schedule : Schedule
-  pub says : Says text schedule
-  pub performed : Performed gained old new harts schedule fault
-
--- a text was read and what it says was done
-abbrev pub Answered : {K : Type 0} → (K → List ℕ → K → Type 0) → K → K → List HartState → List ℕ → Option Fault → Type 0
-Answered gained old new harts text None = Found gained old new harts text None
-Answered gained old new harts text (Some WriteFault) = Found gained old new harts text (Some WriteFault)
-Answered gained old new harts text (Some Memory) = Nothing gained old new harts
-Answered gained old new harts text (Some OtherForm) = ((s : Schedule) → IsSmallForm text s → ⊥) × Nothing gained old new harts
-Answered gained old new harts text (Some Usage) = ⊥
-Answered gained old new harts text (Some ReadFault) = ⊥
-Answered gained old new harts text (Some (Sample at fault)) = ⊥
+use Rattle.ctrsim_cli.specs.declared.fault.Fault.TheVariants.{ReadFault, WriteFault, Sample}
 
 -- a count rose where this is the fault
 abbrev pub ReadCause : ℕ → ℕ → Option Fault → Type 0

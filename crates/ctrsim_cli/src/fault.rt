@@ -1,6 +1,7 @@
 //! How a call of the program ends.
 
 use perf_sample::SampleFault;
+use sched_text::LineFault;
 
 /// Why a call did not do all that it was asked to.
 #[derive(Clone, Copy, Debug, PartialEq, Eq)]
@@ -11,16 +12,16 @@ pub enum Fault {
     ReadFault,
     /// A write to the sink failed.
     WriteFault,
-    /// No memory was found.
-    Memory,
-    /// The input isn't a schedule of the small form.
-    OtherForm,
+    /// A line of the schedule is refused: its number from 1, and why.
+    Line(LineFault),
     /// The bytes at this offset of the input are no sample, and why; never a failed read.
     Sample(u64, SampleFault),
+    /// No memory was found. It comes before the first command is performed.
+    Memory,
 }
 
 /// The exit status, and the fault that it stands for: 0 for none, 2 Usage, 3 ReadFault, 4 WriteFault,
-/// 6 Sample, 7 Memory, 9 OtherForm.
+/// 5 Line, 6 Sample, 7 Memory.
 #[derive(Clone, Copy, Debug, PartialEq, Eq)]
 pub struct Outcome {
     pub status: u8,

@@ -3,21 +3,18 @@
 
 mod bytes;
 mod command;
-mod cutting;
+mod counting;
+mod demo;
 mod fault;
-mod input;
-mod irqs;
-mod laws;
+mod memories;
 mod notes;
+mod numbers;
+mod performing;
 mod running;
 mod sample_text;
-mod sampling;
 mod showing;
-mod small_form;
-mod task_line;
 mod top;
 mod words;
 
 pub use fault::{Fault, Outcome};
-pub use laws::worked_runs;
 pub use top::ctrsim;

@@ -2,13 +2,14 @@
 
 ghost use Rattle.std.specs.Prelude.{◌≡◌, ◌+◌, ◌≤◌, ◌++◌, length};
 ghost use Rattle.arrayvec.specs.ArrayVec.{array_vec_len};
-ghost use Rattle.ctrsim_cli.specs.Fault.{place_text, broken_text, text_of, said};
+ghost use Rattle.ctrsim_cli.specs.Fault.{place_text, broken_text, reason_text, text_of, said};
 ghost use Rattle.ctrsim_cli.specs.SampleText.{dec};
 
 use crate::bytes::{put, put_decimal};
 use crate::fault::Fault;
 use arrayvec::ArrayVec;
 use perf_sample::{Place, SampleFault};
+use sched_text::Reason;
 
 /// Room for the line of a fault: at most 71 bytes are written.
 pub type Note = ArrayVec<u8, 128>;
@@ -73,6 +74,29 @@ fn put_broken(out: &mut Note, fault: SampleFault)
     }
 }
 
+// Why a line is refused.
+#[tactic(auto, unfolding(crate::specs::Fault::reason_text))]
+fn put_reason(out: &mut Note, reason: Reason)
+    requires { array_vec_len out.old ≤ 48 }
+    ensures items { out.new.items ≡ out.old.items ++ reason_text reason }
+    ensures most { array_vec_len out.new ≤ array_vec_len out.old + 23 }
+{
+    match reason {
+        Reason::LongLine => put(out, b"too long"),
+        Reason::Cut => put(out, b"input ended"),
+        Reason::NotWord => put(out, b"unexpected words"),
+        Reason::NotNumber => put(out, b"not a number"),
+        Reason::Range => put(out, b"out of range"),
+        Reason::TooMany => put(out, b"too many"),
+        Reason::NoTask => put(out, b"no such task"),
+        Reason::NoHart => put(out, b"no such hart"),
+        Reason::NotResident => put(out, b"task is on no hart"),
+        Reason::EmptyHart => put(out, b"hart has no task"),
+        Reason::IrqOrder => put(out, b"interrupts out of order"),
+        Reason::Trailing => put(out, b"input goes on"),
+    }
+}
+
 // The text of a fault.
 fn put_text(out: &mut Note, fault: Fault)
     requires { array_vec_len out.old ≤ 8 }
@@ -80,11 +104,16 @@ fn put_text(out: &mut Note, fault: Fault)
     ensures most { array_vec_len out.new ≤ array_vec_len out.old + 80 }
 {
     match fault {
-        Fault::Usage => put(out, b"usage: ctrsim run | show HEX | demo N"),
+        Fault::Usage => put(out, b"usage: ctrsim run | show HEX [BRANCH] | demo N"),
         Fault::ReadFault => put(out, b"cannot read"),
         Fault::WriteFault => put(out, b"cannot write"),
         Fault::Memory => put(out, b"no memory"),
-        Fault::OtherForm => put(out, b"other form"),
+        Fault::Line(fault) => {
+            put(out, b"line ");
+            put_decimal(out, u64::from(fault.line));
+            put(out, b": ");
+            put_reason(out, fault.reason);
+        }
         Fault::Sample(offset, fault) => {
             put(out, b"sample at ");
             put_decimal(out, offset);

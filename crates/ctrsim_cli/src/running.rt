@@ -1,56 +1,73 @@
-// A task on a hart.
-ghost use Rattle.std.specs.Prelude.{◌≡◌, ◌≤◌, Some};
-ghost use Rattle.perf_sample.specs.Layout.{Fits};
-ghost use Rattle.rv_hart.specs.Memory.{memory_of};
-ghost use Rattle.rv_hart.specs.Lone.{first_state, after_steps};
-ghost use Rattle.rv_hart.specs.Hart.{fresh_hart, machine_of};
-ghost use Rattle.ctrsim_cli.specs.Form.{schedule_of};
-ghost use Rattle.ctrsim_cli.specs.Sample.{sample_of, small_layout};
-ghost use Rattle.ctrsim_cli.specs.Left.{run_of, ran_hart};
+//! The word `run`: a schedule, performed as it is read.
 
-use crate::sampling::sample;
-use crate::small_form::Form;
-use ctr_csrs::depth_code;
-use indirect_regs::{CtrPort, PortReg};
-use perf_sample::Sample;
-use rv_hart::{Hart, Store, TaskMem, lone_run_laws};
+ghost use Rattle.std.specs.Prelude.{◌≡◌, None, false, OnOk};
+ghost use Rattle.ctr_port.specs.Counts.{HasCause};
+ghost use Rattle.ctr_port.specs.InHand.{text_of};
+ghost use Rattle.rv_hart.specs.Hart.{fresh_harts};
+ghost use Rattle.sched_text.specs.Causes.{is_read};
+ghost use Rattle.sched_text.specs.Reader.{fresh};
+ghost use Rattle.ctrsim_cli.specs.Parts.{OpenAnswer, opening_fault};
+ghost use Rattle.ctrsim_cli.specs.Performed.{ReadCause, WriteCause};
+ghost use Rattle.ctrsim_cli.specs.RunEnds.{RunEnds};
 
-// Writes the depth and the controls of a task, and says that it is task 0 that runs on the hart.
-fn prepare(hart: &mut Hart<Store>, form: &Form<'_>)
-    requires { hart.old ≡ fresh_hart }
-    ensures { hart.new ≡ record hart.old { unit = (first_state (schedule_of form.now).task).unit; accesses = 3; resident = Some 0 } }
+use crate::fault::Fault;
+use crate::memories::read_memories;
+use crate::performing::perform_all;
+use ctr_port::{Sink, Source};
+use replay_engine::{Engine, engine_laws};
+use rv_hart::Harts;
+use sched_text::{ScheduleFault, ScheduleReader};
+use std::alloc::Global;
+
+// Why a schedule can't be opened.
+fn not_opened(fault: ScheduleFault) -> Fault
+    ensures { result ≡ opening_fault fault }
 {
-    hart.set(PortReg::Depth, depth_code(form.depth));
-    hart.set(PortReg::Mctrctl, form.mctrctl);
-    hart.set(PortReg::Vsctrctl, form.vsctrctl);
-    hart.set_resident(Some(0));
-}
-
-// Makes the steps of a task, before each of which its interrupts become pending.
-fn run_task(hart: &mut Hart<Store>, mem: &mut TaskMem, form: &Form<'_>)
-    requires none { hart.old.steps ≡ 0 }
-    requires few { form.now.steps ≤ 1000000000 }
-    ensures state { machine_of hart.new mem.new ≡ after_steps (schedule_of form.now).task.irqs 0 form.now.steps (machine_of hart.old mem.old) }
-    ensures rest { hart.new ≡ record hart.old { core = hart.new.core; unit = hart.new.unit; steps = form.now.steps } }
-{
-    let mut place = 0;
-    for n in 0..form.steps {
-        let pending = form.irqs.raised(&mut place, n);
-        hart.step(mem, pending);
+    match fault {
+        ScheduleFault::Line(fault) => Fault::Line(fault),
+        ScheduleFault::ReadFault => Fault::ReadFault,
+        ScheduleFault::Memory => Fault::Memory,
     }
 }
 
-/// Runs a task on a fresh hart, with its memory before the first step: the sample after the last.
-pub fn run_on(hart: &mut Hart<Store>, mem: &mut TaskMem, form: &Form<'_>) -> Sample
-    requires fresh { hart.old ≡ fresh_hart }
-    requires image { mem.old ≡ memory_of form.now.image.now form.now.mem }
-    requires few { form.now.steps ≤ 1000000000 }
-    ensures hart { hart.new ≡ ran_hart (schedule_of form.now) }
-    ensures sample { result ≡ sample_of (run_of (schedule_of form.now)) }
-    ensures fits { Fits small_layout result }
+// Reads the header and the images of a schedule. All memory that its tasks ever take is taken here.
+fn open<S: Source>(
+    alloc: Global,
+    reader: &mut ScheduleReader,
+    source: &mut S,
+) -> Result<Engine, ScheduleFault>
+    requires { reader.old ≡ fresh }
+    ensures answer { OpenAnswer reader.new.line (text_of reader.old.hand (S.left source.old))
+        (text_of reader.new.hand (S.left source.new)) reader.new.hand result }
+    ensures cause { HasCause is_read (S.faults source.old) (S.faults source.new) result }
+    ensures open { OnOk result ((reader.new.refused ≡ None) × (reader.new.ended ≡ false)
+        × (reader.new.commands ≡ 0)) }
 {
-    lone_run_laws();
-    prepare(hart, form);
-    run_task(hart, mem, form);
-    sample(hart)
+    let header = reader.header(alloc, source)?;
+    let mems = read_memories(alloc, reader, source, header.tasks.items())?;
+    match Engine::start(alloc, header, mems) {
+        Ok(engine) => Ok(engine),
+        Err(_) => Err(ScheduleFault::Memory),
+    }
+}
+
+/// Reads a schedule and performs its commands on the harts, each before the next is read.
+pub(crate) fn run<S: Source, K: Sink>(
+    alloc: Global,
+    source: &mut S,
+    sink: &mut K,
+    harts: &mut Harts,
+) -> Option<Fault>
+    requires { harts.old ≡ fresh_harts }
+    ensures ran { RunEnds (S.left source.old) (S.left source.new) K.gained sink.old sink.new
+        harts.new result }
+    ensures read { ReadCause (S.faults source.old) (S.faults source.new) result }
+    ensures write { WriteCause (K.faults sink.old) (K.faults sink.new) result }
+{
+    engine_laws();
+    let mut reader = ScheduleReader::new();
+    match open(alloc, &mut reader, source) {
+        Ok(mut engine) => perform_all(&mut reader, source, &mut engine, harts, sink),
+        Err(fault) => Some(not_opened(fault)),
+    }
 }

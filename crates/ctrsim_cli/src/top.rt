@@ -4,11 +4,14 @@ ghost use Rattle.std.specs.Prelude.{◌≡◌, ◌↔◌, ◌⊎◌, ◌≤◌, 
 ghost use Rattle.ctr_port.specs.Counts.{Rose};
 ghost use Rattle.rv_hart.specs.Hart.{fresh_harts};
 ghost use Rattle.ctrsim_cli.specs.Fault.{status_of, said_if};
-ghost use Rattle.ctrsim_cli.specs.SmallForm.{Schedule, IsSmallForm};
-ghost use Rattle.ctrsim_cli.specs.Ended.{RunEnds};
+ghost use Rattle.replay_engine.specs.Breaks.{IsAccepted, ScheduleBreak};
+ghost use Rattle.sched_text.specs.declared.faults.LineFault.{LineFault};
+ghost use Rattle.sched_text.specs.declared.schedule.Command.{Command};
+ghost use Rattle.ctrsim_cli.specs.Demo.{DemoEnds};
+ghost use Rattle.ctrsim_cli.specs.RunEnds.{RunEnds};
 ghost use Rattle.ctrsim_cli.specs.ShowEnds.{ShowEnds, ShowsBytes};
 ghost use Rattle.ctrsim_cli.specs.Showing.{AreSpelled, joined};
-ghost use Rattle.ctrsim_cli.specs.Words.{IsRun, IsShow, IsKnown};
+ghost use Rattle.ctrsim_cli.specs.Words.{IsRun, IsShow, IsDemo, IsKnown};
 ghost use Rattle.perf_sample.specs.Layout.{LayoutWords};
 ghost use Rattle.perf_sample.specs.Reader.{most};
 ghost use Rattle.perf_sample.specs.declared.sample.Sample.{Sample};
@@ -18,6 +21,7 @@ use crate::command::command;
 use crate::fault::{Fault, Outcome};
 use crate::notes::line_of;
 use ctr_port::{Sink, Source, write_whole};
+use replay_engine::engine_laws;
 use rv_hart::Harts;
 use std::alloc::Global;
 
@@ -30,9 +34,9 @@ fn status(fault: Option<Fault>) -> u8
         Some(Fault::Usage) => 2,
         Some(Fault::ReadFault) => 3,
         Some(Fault::WriteFault) => 4,
+        Some(Fault::Line(_)) => 5,
         Some(Fault::Sample(_, _)) => 6,
         Some(Fault::Memory) => 7,
-        Some(Fault::OtherForm) => 9,
     }
 }
 
@@ -49,14 +53,15 @@ fn say<N: Sink>(fault: Option<Fault>, notes: &mut N)
     }
 }
 
-/// Does what the words ask for: `run` reads a schedule of the small form from `source`, runs its task
-/// on hart 0, and writes the sample after its last step to `sink`; `show HEX` and `show HEX BRANCH`
-/// read samples of a layout and write their text, each when it was read whole.
+/// Does what the words ask for, which are the arguments after the program's name.
 ///
-/// `words` are the arguments after the program's name. What is said of a fault goes to `notes`; a
-/// failure of `notes` changes neither the status nor the output. Under `run` nothing is written
-/// before all input was read and all steps were made, and no hart does anything before the memory of
-/// the task was found. `show` takes no memory, and the harts stay as they are.
+/// `run` reads a schedule from `source`, performs each command on the harts before the next is
+/// read, and writes the samples to `sink`. `show HEX` and `show HEX BRANCH` read samples of a layout
+/// and write their text, each when it was read whole. `demo N` performs N turns of a schedule that
+/// is made and not read, and writes one line of what its samples come to.
+///
+/// What is said of a fault goes to `notes`; a failure of `notes` changes neither the status nor the
+/// output. Memory is asked for under `run` and `demo` alone, and before the first command.
 pub fn ctrsim<S: Source, K: Sink, N: Sink>(
     alloc: Global,
     words: &[String],
@@ -68,8 +73,10 @@ pub fn ctrsim<S: Source, K: Sink, N: Sink>(
     requires { harts.old ≡ fresh_harts }
     ensures status { result.status ≡ status_of result.fault }
 
-    // The headline: without a fault all input is one schedule, all its steps were made on hart 0, and
-    // the one sample that was written is that of its task's lone run. With one, what was done.
+    // The headline. Without a fault all input is an accepted schedule, and the sink gained the
+    // bytes of all its samples, in order, and nothing else; each is the sample of its task's lone
+    // run, whatever other tasks and moves came between; and the harts are what the commands make of
+    // them. With a fault, what was read, written and performed before it.
     ensures run { IsRun words.now → RunEnds (S.left source.old) (S.left source.new)
         K.gained sink.old sink.new harts.new result.fault }
 
@@ -80,12 +87,17 @@ pub fn ctrsim<S: Source, K: Sink, N: Sink>(
     ensures bytes { (layout : LayoutWords) (bytes : List ℕ) → IsShow words.now layout →
         S.left source.old ≡ Some bytes →
         ShowsBytes K.gained layout bytes (S.left source.new) sink.old sink.new result.fault }
+    ensures shown { (layout : LayoutWords) → IsShow words.now layout → harts.new ≡ harts.old }
 
-    // Only `run` touches the harts; and other words come exactly to this, and touch nothing.
-    ensures harts { (IsRun words.now → ⊥) → harts.new ≡ harts.old }
+    // What the samples of the turns come to, and the harts after them; nothing is read.
+    ensures demo { (turns : ℕ) → IsDemo words.now turns →
+        DemoEnds K.gained sink.old sink.new harts.new turns result.fault }
+    ensures made { (turns : ℕ) → IsDemo words.now turns → source.new ≡ source.old }
+
+    // Other words come exactly to this, and touch nothing.
     ensures usage { (result.fault ≡ Some Fault.Usage) ↔ (IsKnown words.now → ⊥) }
-    ensures untouched { (IsKnown words.now → ⊥) →
-        (source.new ≡ source.old) × (sink.new ≡ sink.old) }
+    ensures untouched { (IsKnown words.now → ⊥) → (source.new ≡ source.old)
+        × (sink.new ≡ sink.old) × (harts.new ≡ harts.old) }
 
     // A failure has a cause: a count of faults that rose in this call.
     ensures read_cause { result.fault ≡ Some Fault.ReadFault →
@@ -94,25 +106,30 @@ pub fn ctrsim<S: Source, K: Sink, N: Sink>(
         Rose (K.faults sink.old) (K.faults sink.new) }
 
     // Each comes wherever its cause is there, but for want of memory and for counts that rose.
-    ensures all_done { IsRun words.now → (text : List ℕ) (s : Schedule) →
-        S.left source.old ≡ Some text → IsSmallForm text s →
+    ensures all_performed { IsRun words.now → (text : List ℕ) (commands : List Command) →
+        S.left source.old ≡ Some text → IsAccepted text commands →
         (Rose (S.faults source.old) (S.faults source.new) → ⊥) →
         (Rose (K.faults sink.old) (K.faults sink.new) → ⊥) →
         (result.status ≡ 0) ⊎ (result.status ≡ 7) }
-    ensures all_other_form { IsRun words.now → (text : List ℕ) → S.left source.old ≡ Some text →
-        ((s : Schedule) → IsSmallForm text s → ⊥) →
+    ensures all_refused { IsRun words.now → (text : List ℕ) (f : LineFault) →
+        S.left source.old ≡ Some text → ScheduleBreak text f →
         (Rose (S.faults source.old) (S.faults source.new) → ⊥) →
-        (result.fault ≡ Some Fault.OtherForm) ⊎ (result.fault ≡ Some Fault.Memory) }
+        (Rose (K.faults sink.old) (K.faults sink.new) → ⊥) →
+        (result.fault ≡ Some (Fault.Line f)) ⊎ (result.fault ≡ Some Fault.Memory) }
     ensures all_shown { (layout : LayoutWords) (samples : List Sample) → IsShow words.now layout →
         AreSpelled layout samples → length samples ≤ most →
         S.left source.old ≡ Some (joined layout samples) →
         (Rose (S.faults source.old) (S.faults source.new) → ⊥) →
         (Rose (K.faults sink.old) (K.faults sink.new) → ⊥) → result.status ≡ 0 }
+    ensures all_summed { (turns : ℕ) → IsDemo words.now turns →
+        (Rose (K.faults sink.old) (K.faults sink.new) → ⊥) →
+        (result.status ≡ 0) ⊎ (result.status ≡ 7) }
 
     // The text of the fault, or of it what the notes took; nothing where there is none.
     ensures notes { SaidPart N.gained notes.old notes.new (said_if result.fault)
         (N.faults notes.old) (N.faults notes.new) }
 {
+    engine_laws();
     let fault = command(alloc, words, source, sink, harts);
     say(fault, notes);
     Outcome {

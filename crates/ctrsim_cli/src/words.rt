@@ -3,9 +3,10 @@
 ghost use Rattle.std.specs.Prelude.{◌≡◌, ℕ, List, IfSome, IsNone};
 ghost use Rattle.std.specs.Bool.{OnTrue, OnFalse};
 ghost use Rattle.perf_sample.specs.Layout.{LayoutWords};
-ghost use Rattle.ctrsim_cli.specs.Words.{IsRun, IsTypeWord, IsBranch, IsShow, IsAsked, IsKnown};
+ghost use Rattle.ctrsim_cli.specs.Words.{IsRun, IsTypeWord, IsBranch, IsShow, IsTurns};
+ghost use Rattle.ctrsim_cli.specs.Words.{IsDemo, IsAsked, IsKnown};
 
-use crate::cutting::hexadecimal;
+use crate::numbers::{decimal, hexadecimal};
 use perf_sample::Layout;
 
 /// What the program can be asked for.
@@ -14,6 +15,8 @@ pub(crate) enum Word {
     Run,
     /// To show samples of a layout.
     Show(Layout),
+    /// To perform so many turns of a schedule that is made, 1 to 100,000.
+    Demo(u32),
 }
 
 fn is_run(words: &[String]) -> bool
@@ -68,6 +71,34 @@ fn show_of(words: &[String]) -> Option<Layout>
     }
 }
 
+// The turns of a word N.
+fn turns_of(word: &String) -> Option<u32>
+    ensures some { IfSome result (IsTurns word.now) }
+    ensures none { IsNone result → (turns : ℕ) → IsTurns word.now turns → ⊥ }
+{
+    let turns = decimal(word.as_str().as_bytes(), 6)?;
+    if turns == 0 || turns > 100_000 {
+        return None;
+    }
+    Some(turns as u32)
+}
+
+// The turns that the words after `demo` say, if they are such words.
+fn demo_of(words: &[String]) -> Option<u32>
+    ensures some { IfSome result (IsDemo words.now) }
+    ensures none { IsNone result → (turns : ℕ) → IsDemo words.now turns → ⊥ }
+{
+    match words {
+        [word, number] => {
+            if word.as_str() != "demo" {
+                return None;
+            }
+            turns_of(number)
+        }
+        _ => None,
+    }
+}
+
 /// What the words ask for; none where they ask for nothing that the program knows.
 pub(crate) fn word_of(words: &[String]) -> Option<Word>
     ensures some { IfSome result (IsAsked words.now) }
@@ -76,6 +107,9 @@ pub(crate) fn word_of(words: &[String]) -> Option<Word>
     if is_run(words) {
         return Some(Word::Run);
     }
-    let layout = show_of(words)?;
-    Some(Word::Show(layout))
+    if let Some(layout) = show_of(words) {
+        return Some(Word::Show(layout));
+    }
+    let turns = demo_of(words)?;
+    Some(Word::Demo(turns))
 }
