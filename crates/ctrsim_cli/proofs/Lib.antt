@@ -14,3 +14,4 @@ mod CountLaws
 mod DemoLaws
 mod TopLaws
 mod SummaryLaws
+mod ScheduleLaws

@@ -1,6 +1,6 @@
 -- What a reader must believe: Words with Numbers; Schedule, Says and RunEnds for `run`; SampleText,
--- Showing and ShowEnds for `show`; Demo for `demo`; and Fault. Performed, Parts and Counted tie
--- private functions to them.
+-- Showing and ShowEnds for `show`; Demo for `demo`; and Fault. Laws are consequences of them, and
+-- Performed, Parts and Counted tie private functions to them.
 pub mod Numbers
 pub mod Words
 pub mod Fault
@@ -14,3 +14,4 @@ pub mod Demo
 pub mod Counted
 pub mod Performed
 pub mod Parts
+pub mod Laws

@@ -6,6 +6,7 @@ mod command;
 mod counting;
 mod demo;
 mod fault;
+mod laws;
 mod memories;
 mod notes;
 mod numbers;
@@ -17,4 +18,5 @@ mod top;
 mod words;
 
 pub use fault::{Fault, Outcome};
+pub use laws::schedule_laws;
 pub use top::ctrsim;
