@@ -1,9 +1,8 @@
 -- A command whose sample could not be written.
-use Rattle.std.proofs.Common.{◌≡◌, refl, sym, ap, ◌∙◌, subst, arith, ℕ, zero, suc, ◌+◌, ◌<◌, ◌≤◌}
+use Rattle.std.proofs.Common.{◌≡◌, refl, sym, ap, ◌∙◌, subst, arith, ℕ, suc, ◌+◌, ◌<◌}
 use Rattle.std.proofs.Common.{List, [], ◌∷◌, ◌++◌, length, take, append-nil, append_assoc, Bool, true, false, cond}
 use Rattle.std.specs.Prelude.{Option, Some, None, slice_get}
 use Rattle.std.proofs.lemmas.List.{append_cancel_left}
-use Rattle.std.proofs.lemmas.Grind.{flat_map-append}
 use Rattle.perf_sample.specs.Layout.{LayoutWords}
 use Rattle.perf_sample.specs.Spelling.{spelling}
 use Rattle.perf_sample.specs.declared.sample.Sample.{Sample}
@@ -11,7 +10,7 @@ use Rattle.replay_engine.specs.HartsAt.{StandingHartsAreAt}
 use Rattle.replay_engine.specs.Laws.{SamplesJoin}
 use Rattle.replay_engine.specs.Runs.{spellings, IsCut, present_after, is_due}
 use Rattle.replay_engine.specs.Samples.{sample_of}
-use Rattle.replay_engine.specs.Stands.{StandsFor, scheduled_samples, scheduled_of, lone_run_samples, lone_sample}
+use Rattle.replay_engine.specs.Stands.{scheduled_samples, scheduled_of, lone_run_samples, lone_sample}
 use Rattle.replay_engine.specs.Stands.{lone_samples, own_steps, place_after}
 use Rattle.replay_engine.specs.StandsAfter.{StandsForPart, StandsForSample, StandsCutOff}
 use Rattle.replay_engine.specs.Start.{plan_of}
@@ -23,7 +22,7 @@ use Rattle.sched_text.specs.declared.schedule.Command.{Command}
 use Rattle.sched_text.specs.declared.schedule.Command.TheVariants.{Run, Sample as Sampled, Evict}
 use Rattle.sched_text.specs.declared.schedule.Command.TheVariants.{End}
 use Rattle.ctrsim_cli.specs.RunEnds.{IsCutOff}
-use Rattle.ctrsim_cli.specs.Schedule.{Schedule, first_states, layout_of, output_of, samples_of, followed_by}
+use Rattle.ctrsim_cli.specs.Schedule.{Schedule, first_states, output_of}
 use Rattle.ctrsim_cli.proofs.PerformLaws.{samples_more, bytes_more}
 
 -- of no bytes nothing can be cut off

@@ -1,14 +1,14 @@
 -- The schedule of `demo`: its tasks, and its turns, each of which may be performed.
-use Rattle.std.proofs.Common.{◌≡◌, refl, sym, ap, ◌∙◌, subst, arith, ℕ, zero, suc, ◌+◌, ◌*◌, ◌/◌, ◌%◌, ◌^◌, ◌<◌, ◌≤◌}
-use Rattle.std.proofs.Common.{List, [], ◌∷◌, ◌++◌, length, replicate, add-one, append_assoc, if◌then◌else◌, Bool, true, false, nat_lt, nat_eq, cond, fold}
-use Rattle.std.specs.Prelude.{Option, Some, None, Err, slice_get}
+use Rattle.std.proofs.Common.{◌≡◌, refl, sym, ap, ◌∙◌, subst, arith, ℕ, zero, suc, ◌+◌, ◌*◌, ◌/◌, ◌%◌, ◌^◌, ◌≤◌}
+use Rattle.std.proofs.Common.{List, [], ◌∷◌, ◌++◌, length, replicate, add-one, append_assoc, true, false, nat_lt, nat_eq}
+use Rattle.std.specs.Prelude.{Some, None, Err}
 use Rattle.std.proofs.Common.{length-append, All, map}
 use Rattle.std.proofs.lemmas.List.{length-replicate}
 use Rattle.std.proofs.lemmas.List.Elements.{All-push, All-nil}
 use Rattle.std.proofs.lemmas.Grind.{fold-append}
 use Rattle.std.proofs.lemmas.Option.{none-some}
 use Rattle.ctr_port.specs.Counts.{HasCause}
-use Rattle.replay_engine.specs.Outcome.{is_write_fault, no_place}
+use Rattle.replay_engine.specs.Outcome.{is_write_fault}
 use Rattle.replay_engine.specs.Refusals.{refusal_after}
 use Rattle.replay_engine.specs.Stands.{place_after, place_next}
 use Rattle.replay_engine.specs.StandsAfter.{StandsAfter}
@@ -24,7 +24,6 @@ use Rattle.sched_text.specs.Header.{IsHeader}
 use Rattle.sched_text.specs.Irqs.{IsIrq, follow_on}
 use Rattle.sched_text.specs.Rows.{IsTask}
 use Rattle.sched_text.specs.declared.schedule.Command.{Command}
-use Rattle.sched_text.specs.declared.schedule.TaskLine.{TaskLine}
 use Rattle.replay_engine.specs.Counts.{CountsWithin, HasRoom}
 use Rattle.replay_engine.specs.Engine.{EngineState}
 use Rattle.replay_engine.specs.Laws.{SamplesJoin, CountsLoosen}

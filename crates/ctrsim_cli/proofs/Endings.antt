@@ -1,25 +1,25 @@
 -- How a schedule ends, told of the bytes of the source.
-use Rattle.std.proofs.Common.{◌≡◌, ◌⊎◌, inl, inr, refl, sym, ap, ◌∙◌, subst, arith, ℕ, zero, suc}
+use Rattle.std.proofs.Common.{◌≡◌, inl, inr, refl, sym, ap, ◌∙◌, arith, ℕ, suc}
 use Rattle.std.proofs.Common.{◌+◌, ◌<◌, ◌≤◌, List, [], ◌∷◌, ◌++◌, length, take, drop, add-one}
-use Rattle.std.proofs.Common.{append-nil, append_assoc, length-append, take-append-drop, length-take, length-take-le}
+use Rattle.std.proofs.Common.{append_assoc, length-append, take-append-drop, length-take, length-take-le}
 use Rattle.std.proofs.Math.Seq.{drop-append_seam, take-append_seam}
 use Rattle.std.proofs.lemmas.List.{take-take}
 use Rattle.std.proofs.lemmas.List.Sums.{sum_by-take-le}
 use Rattle.std.proofs.lemmas.Bool.{or_right}
-use Rattle.std.specs.Prelude.{Option, Some, None, Result, Ok, Err, true, false, slice_get}
+use Rattle.std.specs.Prelude.{Option, Some, None, Ok, Err, true}
 use Rattle.ctr_port.specs.InHand.{Of, text_of}
-use Rattle.ctr_port.proofs.InHand.{of_map, of_then}
-use Rattle.replay_engine.specs.Breaks.{AreAllowed, HasAllowed, ByText, ByPlace, CommandRefused, reason_of}
+use Rattle.ctr_port.proofs.InHand.{of_then}
+use Rattle.replay_engine.specs.Breaks.{AreAllowed, HasAllowed, reason_of}
 use Rattle.replay_engine.specs.Refusals.{refusal_after}
 use Rattle.replay_engine.specs.Start.{plan_of}
 use Rattle.replay_engine.specs.declared.fault.PerformFault.{PerformFault}
 use Rattle.sched_text.specs.Commands.{command_row, command_cut, command_at, commands_after, next_command, joined}
-use Rattle.sched_text.specs.Header.{Whole, HasHeader, HeaderBreak, HeaderAnswer, IsCutOff, header_cut, after}
+use Rattle.sched_text.specs.Header.{Whole, HasHeader, IsCutOff, header_cut, after}
 use Rattle.sched_text.specs.Images.{IsWithin}
 use Rattle.sched_text.specs.Lines.{LineCut, Line, Long, Open, line_at}
-use Rattle.sched_text.specs.Outcomes.{total, IsBehind, IsShort, IsImage, ImagesAnswer, FirstCommands}
+use Rattle.sched_text.specs.Outcomes.{total, IsShort, IsImage, FirstCommands}
 use Rattle.sched_text.specs.Reader.{EndsAt}
-use Rattle.sched_text.specs.Text.{HasCommands, HasImage, ImagesBreak, has_end}
+use Rattle.sched_text.specs.Text.{HasCommands, ImagesBreak, has_end}
 use Rattle.sched_text.specs.declared.faults.LineFault.{LineFault}
 use Rattle.sched_text.specs.declared.faults.Reason.TheVariants as reason
 use Rattle.sched_text.specs.declared.schedule.Command.{Command}

@@ -3,8 +3,8 @@ use Rattle.std.proofs.Common.{◌≡◌, ◌⊎◌, inl, inr, refl, sym, ap, ◌
 use Rattle.std.proofs.Common.{◌+◌, ◌-◌, ◌<◌, ◌≤◌, List, [], ◌∷◌, ◌++◌, length, take, drop, map}
 use Rattle.std.proofs.Common.{get_or, replicate, length-append, drop-drop}
 use Rattle.std.proofs.lemmas.List.{length-replicate}
-use Rattle.std.proofs.Common.{if◌then◌else◌, Bool, true, false, nat_lt, All}
-use Rattle.std.specs.Prelude.{slice_get, Option, Some, None, Result, Ok, Err}
+use Rattle.std.proofs.Common.{if◌then◌else◌, Bool, true, false, nat_lt}
+use Rattle.std.specs.Prelude.{slice_get, Option, Some, None, Result, Ok}
 use Rattle.std.proofs.lemmas.List.{map-append, length-drop, take_more, take_all, length-take-le}
 use Rattle.std.proofs.lemmas.List.Sums.{sum_by_more}
 use Rattle.std.proofs.lemmas.Option.{none-some, same_Some}

@@ -1,20 +1,20 @@
 -- One command more, read and performed; and how the loop over them ends.
-use Rattle.std.proofs.Common.{◌≡◌, ◌⊎◌, inl, inr, refl, sym, ap, ◌∙◌, subst, arith, ℕ, zero, suc}
-use Rattle.std.proofs.Common.{◌+◌, ◌*◌, ◌^◌, ◌≤◌, ◌<◌, List, [], ◌∷◌, ◌++◌, length, append-nil, append_assoc, add-one}
-use Rattle.std.specs.Prelude.{Option, Some, None, Result, Ok, Err, false, true}
+use Rattle.std.proofs.Common.{◌≡◌, inl, inr, refl, sym, ap, ◌∙◌, subst, arith, ℕ, suc}
+use Rattle.std.proofs.Common.{◌+◌, ◌*◌, ◌^◌, ◌<◌, List, [], ◌∷◌, ◌++◌, length, append-nil, append_assoc, add-one}
+use Rattle.std.specs.Prelude.{Option, Some, None, Ok, Err, false, true}
 use Rattle.std.proofs.lemmas.Bool.{or_from}
 use Rattle.std.proofs.lemmas.Grind.{flat_map-append}
 use Rattle.ctr_port.specs.InHand.{Of}
 use Rattle.ctr_port.proofs.InHand.{of_then}
 use Rattle.perf_sample.specs.Spelling.{spelling}
 use Rattle.perf_sample.specs.declared.sample.Sample.{Sample}
-use Rattle.replay_engine.specs.Breaks.{AllowedAfter, AreAllowed, reason_of}
+use Rattle.replay_engine.specs.Breaks.{AllowedAfter, reason_of}
 use Rattle.replay_engine.specs.Counts.{CountsWithin}
 use Rattle.replay_engine.specs.Laws.{SamplesJoin}
 use Rattle.replay_engine.specs.Refusals.{refusal_after}
 use Rattle.replay_engine.specs.Runs.{spellings}
-use Rattle.replay_engine.specs.Stands.{StandsFor, scheduled_samples, scheduled_from, scheduled_of}
-use Rattle.replay_engine.specs.StandsAfter.{StandsForMore, StandsCutOff}
+use Rattle.replay_engine.specs.Stands.{StandsFor, scheduled_samples, scheduled_of}
+use Rattle.replay_engine.specs.StandsAfter.{StandsForMore}
 use Rattle.replay_engine.specs.Tasks.{TaskState, PresentState}
 use Rattle.replay_engine.specs.View.{Plan, view_of}
 use Rattle.replay_engine.specs.declared.fault.PerformFault.{PerformFault}

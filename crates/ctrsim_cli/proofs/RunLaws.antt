@@ -1,20 +1,20 @@
 -- What a run of a schedule comes to, by its fault.
-use Rattle.std.proofs.Common.{◌≡◌, ◌⊎◌, inl, inr, refl, sym, ap, ◌∙◌, subst, ℕ, ◌+◌, List, [], ◌∷◌, ◌++◌, length}
-use Rattle.std.specs.Prelude.{Option, Some, None, Result, Ok, Err}
+use Rattle.std.proofs.Common.{◌≡◌, ◌⊎◌, inl, inr, sym, subst, ℕ, ◌+◌, List, [], ◌∷◌, ◌++◌, length}
+use Rattle.std.specs.Prelude.{Option, Some, None, Ok, Err}
 use Rattle.ctr_port.specs.InHand.{Of, text_of}
-use Rattle.ctr_port.proofs.InHand.{of_map, of_then}
+use Rattle.ctr_port.proofs.InHand.{of_then}
 use Rattle.replay_engine.specs.HartsAt.{StandingHartsAreAt}
 use Rattle.replay_engine.specs.Laws.{SamplesJoin}
 use Rattle.replay_engine.specs.Start.{plan_of}
-use Rattle.replay_engine.specs.Tasks.{TaskState, PresentState}
+use Rattle.replay_engine.specs.Tasks.{TaskState}
 use Rattle.replay_engine.specs.Breaks.{AreAllowed}
-use Rattle.rv_hart.specs.Hart.{HartState, fresh_harts}
+use Rattle.rv_hart.specs.Hart.{HartState}
 use Rattle.sched_text.specs.Commands.{command_at}
 use Rattle.sched_text.specs.Header.{HasHeader, HeaderBreak, HeaderAnswer, IsCutOff}
 use Rattle.sched_text.specs.Images.{IsWithin}
 use Rattle.sched_text.specs.Lines.{Open, line_at}
-use Rattle.sched_text.specs.Outcomes.{total, IsShort, ImagesAnswer, FirstCommands}
-use Rattle.sched_text.specs.Reader.{EndsAt, CommandAnswer}
+use Rattle.sched_text.specs.Outcomes.{total, IsShort, FirstCommands}
+use Rattle.sched_text.specs.Reader.{EndsAt}
 use Rattle.sched_text.specs.Text.{ImagesBreak}
 use Rattle.sched_text.specs.declared.faults.LineFault.{LineFault}
 use Rattle.sched_text.specs.declared.faults.ScheduleFault.{ScheduleFault}
@@ -28,7 +28,7 @@ use Rattle.ctrsim_cli.specs.declared.fault.Fault.TheVariants.{Memory, Sample as 
 use Rattle.ctrsim_cli.specs.Parts.{Begins, Performed, PerformAnswer, NextRefused, OpenAnswer, ImagesRefused, opening_fault}
 use Rattle.ctrsim_cli.specs.RunEnds.{IsDone, Nothing, RunEnds}
 use Rattle.ctrsim_cli.specs.Says.{IsAcceptedAs, IsRefusedAfter, IsRefusedBefore, IsTakenTo, IsCutBefore, IsCutAfter, Took}
-use Rattle.ctrsim_cli.specs.Schedule.{Schedule, first_states}
+use Rattle.ctrsim_cli.specs.Schedule.{first_states}
 use Rattle.ctrsim_cli.proofs.CutLaws.{cut_off}
 use Rattle.ctrsim_cli.proofs.Endings.{bare, schedule, header_cut_off, images_short, images_cut_off, accepted_as, refused_by_text, refused_by_place}
 use Rattle.ctrsim_cli.proofs.Endings.{command_cut_off, end_cut_off, taken_to}

@@ -1,17 +1,16 @@
 -- Laws of whole schedules.
-use Rattle.std.proofs.Common.{◌≡◌, refl, sym, ap, ◌∙◌, subst, arith, ℕ, zero, suc, ◌+◌, ◌-◌, ◌<◌, ◌≤◌, List, [], ◌∷◌, ◌++◌}
-use Rattle.std.proofs.Common.{length, map, take, drop, append-nil, append_assoc, length-append, take-append-drop, All}
+use Rattle.std.proofs.Common.{◌≡◌, refl, sym, ap, ◌∙◌, arith, ℕ, zero, suc, ◌+◌, ◌-◌, ◌<◌, List, [], ◌∷◌, ◌++◌}
+use Rattle.std.proofs.Common.{length, map, drop, append-nil, append_assoc, length-append, take-append-drop, All}
 use Rattle.std.specs.Prelude.{Option, Some, None, slice_get}
 use Rattle.std.proofs.lemmas.List.{append_cancel_right, length-drop}
 use Rattle.std.proofs.lemmas.List.Elements.{All-nil, All-append}
 use Rattle.std.proofs.lemmas.Grind.{flat_map-append}
-use Rattle.perf_sample.specs.Layout.{LayoutWords}
 use Rattle.perf_sample.specs.Spelling.{spelling}
 use Rattle.perf_sample.specs.declared.sample.Sample.{Sample}
 use Rattle.replay_engine.specs.Breaks.{AcceptedOrBroken}
 use Rattle.replay_engine.specs.ByLine.{HeadersGiveTasks}
 use Rattle.replay_engine.specs.Laws.{SamplesJoin}
-use Rattle.replay_engine.specs.Runs.{IsCut, present_after, due_sample, spellings}
+use Rattle.replay_engine.specs.Runs.{present_after, due_sample, spellings}
 use Rattle.replay_engine.specs.Stands.{scheduled_samples, scheduled_from, scheduled_of, lone_samples, lone_run_samples, own_steps}
 use Rattle.replay_engine.specs.Start.{plan_of, first_present}
 use Rattle.replay_engine.specs.Tasks.{PresentState}
@@ -26,8 +25,7 @@ use Rattle.sched_text.specs.declared.schedule.Header.{Header}
 use Rattle.sched_text.proofs.OneLaws.{one_of_each}
 use Rattle.ctrsim_cli.specs.Laws.{AcceptedAsOne, SamplesAreOfLoneRuns, WrittenIsPrefix}
 use Rattle.ctrsim_cli.specs.RunEnds.{AreMade}
-use Rattle.ctrsim_cli.specs.Says.{IsAcceptedAs}
-use Rattle.ctrsim_cli.specs.Schedule.{Schedule, tasks_of, first_states}
+use Rattle.ctrsim_cli.specs.Schedule.{tasks_of, first_states}
 use Rattle.ctrsim_cli.proofs.PerformLaws.{samples_more}
 
 -- lists that have the same items
@@ -42,11 +40,11 @@ pub accepted_as_one : ((text : List ℕ) → AcceptedOrBroken text) → Accepted
 accepted_as_one breaks text s t a b =
     let one = one_of_each text in
     let header : s.header ≡ t.header =
-      sym a.header ∙ (one.header a.accepted.lines b.accepted.lines a.accepted.whole.has.progress b.accepted.whole.has.progress a.accepted.whole.has.rest b.accepted.whole.has.rest a.accepted.whole.has.header b.accepted.whole.has.header).1 ∙ b.header in
+    sym a.header ∙ (one.header a.accepted.lines b.accepted.lines a.accepted.whole.has.progress b.accepted.whole.has.progress a.accepted.whole.has.rest b.accepted.whole.has.rest a.accepted.whole.has.header b.accepted.whole.has.header).1 ∙ b.header in
     let commands : s.commands ≡ t.commands =
-      append_cancel_right s.commands t.commands (End ∷ []) ((breaks text).list (s.commands ++ End ∷ []) (t.commands ++ End ∷ []) a.accepted b.accepted) in
+    append_cancel_right s.commands t.commands (End ∷ []) ((breaks text).list (s.commands ++ End ∷ []) (t.commands ++ End ∷ []) a.accepted b.accepted) in
     let images : s.images ≡ t.images =
-      alike s.images t.images (a.images.size ∙ ap (λ (h : Header). length h.tasks) header ∙ sym b.images.size) (λ k x y p q. one.image k x y (a.images.each k x p) (b.images.each k y q)) in
+    alike s.images t.images (a.images.size ∙ ap (λ (h : Header). length h.tasks) header ∙ sym b.images.size) (λ k x y p q. one.image k x y (a.images.each k x p) (b.images.each k y q)) in
     ap (λ (h : Header). record { header = h; images = s.images; commands = s.commands }) header
     ∙ ap (λ (is : List (List ℕ)). record { header = t.header; images = is; commands = s.commands }) images
     ∙ ap (λ (cs : List Command). record { header = t.header; images = t.images; commands = cs }) commands
@@ -103,20 +101,20 @@ written_is_prefix joins s c made before rest failed last are is cut =
     let some = scheduled_of plan first cs made in
     let next = r.0 ++ later in
     let whole : scheduled_samples plan first (cs ++ c ∷ rest) ≡ (old ++ failed ∷ []) ++ next =
-      joins plan first cs (c ∷ rest)
-      ∙ ap (λ (xs : List Sample). all ++ (xs ++ later)) r.1
-      ∙ ap (λ (xs : List Sample). all ++ xs) (append_assoc some r.0 later)
-      ∙ sym (append_assoc all some next)
-      ∙ ap (λ (xs : List Sample). xs ++ next) (sym (samples_more joins plan first cs made) ∙ is) in
+    joins plan first cs (c ∷ rest)
+    ∙ ap (λ (xs : List Sample). all ++ (xs ++ later)) r.1
+    ∙ ap (λ (xs : List Sample). all ++ xs) (append_assoc some r.0 later)
+    ∙ sym (append_assoc all some next)
+    ∙ ap (λ (xs : List Sample). xs ++ next) (sym (samples_more joins plan first cs made) ∙ is) in
     let bytes = spelling layout failed in
     let m = cut.0 in
     let left = drop m bytes in
     let more = left ++ spellings layout next in
     let parts : bytes ≡ last ++ left = sym (take-append-drop m bytes) ∙ ap (λ (xs : List ℕ). xs ++ left) (sym cut.2) in
     let joined : spellings layout ((old ++ failed ∷ []) ++ next) ≡ (spellings layout old ++ last) ++ more =
-      flat_map-append (spelling layout) (old ++ failed ∷ []) next
-      ∙ ap (λ (xs : List ℕ). xs ++ spellings layout next) (flat_map-append (spelling layout) old (failed ∷ []) ∙ ap (λ (xs : List ℕ). spellings layout old ++ xs) (append-nil bytes ∙ parts) ∙ sym (append_assoc (spellings layout old) last left))
-      ∙ append_assoc (spellings layout old ++ last) left (spellings layout next) in (
+    flat_map-append (spelling layout) (old ++ failed ∷ []) next
+    ∙ ap (λ (xs : List ℕ). xs ++ spellings layout next) (flat_map-append (spelling layout) old (failed ∷ []) ∙ ap (λ (xs : List ℕ). spellings layout old ++ xs) (append-nil bytes ∙ parts) ∙ sym (append_assoc (spellings layout old) last left))
+    ∙ append_assoc (spellings layout old ++ last) left (spellings layout next) in (
       more,
       omega (arith, cut.1, length-drop m bytes, length-append left (spellings layout next)),
       ap (spellings layout) whole ∙ joined,

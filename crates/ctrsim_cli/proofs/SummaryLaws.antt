@@ -1,10 +1,10 @@
 -- What the samples of `demo` come to when they are counted.
 use Rattle.std.proofs.Common.{◌≡◌, ◌⊎◌, inl, inr, refl, sym, ap, ◌∙◌, subst, arith, ℕ, zero, suc, ◌+◌, ◌-◌, ◌*◌, ◌/◌, ◌%◌, ◌^◌, ◌<◌, ◌≤◌}
-use Rattle.std.proofs.Common.{List, [], ◌∷◌, ◌++◌, length, take, drop, map, if◌then◌else◌, nat_eq, Bool, true, false, fold, length-append, All, append_assoc}
-use Rattle.std.specs.List.{flat_map, sum_by}
+use Rattle.std.proofs.Common.{List, [], ◌∷◌, ◌++◌, length, map, nat_eq, Bool, true, false, length-append, All, append_assoc}
+use Rattle.std.specs.List.{flat_map}
 use Rattle.std.proofs.lemmas.List.Sums.{sum_by-cons}
 use Rattle.std.proofs.lemmas.List.Elements.{All-head, All-tail}
-use Rattle.std.proofs.lemmas.Grind.{fold-append, flat_map-append}
+use Rattle.std.proofs.lemmas.Grind.{fold-append}
 use Rattle.perf_sample.specs.Layout.{LayoutWords, all_fields, fields_in, fixed_len}
 use Rattle.perf_sample.specs.Spelling.{le, spelling, size_of, header_bytes, fields_bytes, branch_bytes}
 use Rattle.perf_sample.specs.declared.sample.Branch.{Branch}
@@ -35,7 +35,7 @@ use Rattle.rv_hart.specs.Facts.{IsState, StepsKeep, LoneRunKeeps, AreBytes}
 use Rattle.rv_hart.specs.Task.{Irq, AreInterrupts}
 use Rattle.sched_text.specs.declared.schedule.TaskLine.{TaskLine}
 use Rattle.ctrsim_cli.specs.declared.counting.Counter.{Counter}
-use Rattle.ctrsim_cli.specs.Counted.{none_counted, size_after, next_place, count_byte, counted}
+use Rattle.ctrsim_cli.specs.Counted.{none_counted, count_byte, counted}
 use Rattle.ctrsim_cli.specs.Demo.{branch_count, demo_image, demo_lines, demo_schedule, turns, run_of_turn, sample_of_turn, summary_line, summary_of}
 use Rattle.ctrsim_cli.specs.Schedule.{output_of}
 use Rattle.ctrsim_cli.proofs.DemoLaws.{plan, first}
@@ -222,9 +222,9 @@ all_counted a b d n (x ∷ xs) known few =
     let sum : branch_count (x ∷ xs) ≡ length x.branches + branch_count xs = sum_by-cons (λ (y : Sample). length y.branches) x xs in (
       r.0,
       fold-append count_byte (inside a b d 0 n) (spelling demo_layout x) rest
-      ∙ ap (λ (c : Counter). counted c rest) (one_counted a b d n x known (All-head Few x xs few))
-      ∙ r.1
-      ∙ alike (a + 1 + length xs) (a + suc (length xs)) (b + size + length rest) (b + length (spelling demo_layout x ++ rest)) (d + length x.branches + branch_count xs) (d + branch_count (x ∷ xs)) r.0
+          ∙ ap (λ (c : Counter). counted c rest) (one_counted a b d n x known (All-head Few x xs few))
+          ∙ r.1
+          ∙ alike (a + 1 + length xs) (a + suc (length xs)) (b + size + length rest) (b + length (spelling demo_layout x ++ rest)) (d + length x.branches + branch_count xs) (d + branch_count (x ∷ xs)) r.0
           (omega arith) (omega (arith, length-append (spelling demo_layout x) rest, length_spelling x)) (omega (arith, sum)),
     )
 
@@ -345,7 +345,7 @@ turns_few steps keep lone joins (suc n) =
     let two = scheduled_of plan first cs run in
     let three = scheduled_of plan first ds sample in
     let is : scheduled_samples plan first (turns (suc n)) ≡ (one ++ two) ++ three =
-      ap (scheduled_samples plan first) (sym (append_assoc cs (run ∷ []) (sample ∷ []))) ∙ samples_more joins plan first ds sample ∙ ap (λ (xs : List Sample). xs ++ three) (samples_more joins plan first cs run) in
+    ap (scheduled_samples plan first) (sym (append_assoc cs (run ∷ []) (sample ∷ []))) ∙ samples_more joins plan first ds sample ∙ ap (λ (xs : List Sample). xs ++ three) (samples_more joins plan first cs run) in
     let left : (n * n + 3 * n) % 97 < 97 = grind arith in (
       subst (All Few) (sym is) (All-append Few (one ++ two) three (All-append Few one two before.0 a.0) b.0),
       omega (arith, ap length is, length-append (one ++ two) three, length-append one two, before.1, a.1, b.1, left),

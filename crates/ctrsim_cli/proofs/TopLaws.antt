@@ -1,5 +1,5 @@
 -- What the end of a call says of each fault, the other way round.
-use Rattle.std.proofs.Common.{◌≡◌, ◌⊎◌, inl, inr, refl, sym, ap, subst, ℕ, List, []}
+use Rattle.std.proofs.Common.{◌≡◌, ◌⊎◌, inl, inr, refl, ap, subst, ℕ, List}
 use Rattle.std.specs.Prelude.{Option, Some, None}
 use Rattle.ctr_port.specs.Counts.{Rose}
 use Rattle.ctr_port.specs.InHand.{Of}

@@ -1,11 +1,10 @@
 -- The schedule of `demo N`, and the line that says what its samples come to.
-use Rattle.std.specs.Prelude.{◌≡◌, ℕ, zero, suc, ◌+◌, ◌*◌, ◌/◌, ◌%◌, List, [], ◌∷◌, ◌++◌, length}
+use Rattle.std.specs.Prelude.{ℕ, zero, suc, ◌+◌, ◌*◌, ◌/◌, ◌%◌, List, [], ◌∷◌, ◌++◌, length}
 use Rattle.std.specs.Prelude.{replicate, Option, Some, None, codes}
 use Rattle.std.specs.List.{sum_by}
 use Rattle.ctr_port.specs.Appended.{GainsPart}
 use Rattle.perf_sample.specs.declared.sample.Sample.{Sample}
 use Rattle.rv_hart.specs.Hart.{HartState}
-use Rattle.sched_text.specs.declared.faults.LineFault.{LineFault}
 use Rattle.sched_text.specs.declared.schedule.Command.{Command}
 use Rattle.sched_text.specs.declared.schedule.Command.TheVariants.{Run, Sample as Sampled}
 use Rattle.sched_text.specs.declared.schedule.Header.{Header}

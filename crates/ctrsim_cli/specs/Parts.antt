@@ -1,7 +1,7 @@
 -- What the parts of `run` leave. These tie private functions together.
-use Rattle.std.specs.Prelude.{◌≡◌, ◌⊎◌, ℕ, ◌+◌, ◌*◌, ◌^◌, ◌<◌, ◌≤◌, false, List, [], ◌∷◌, length, take, slice_get}
+use Rattle.std.specs.Prelude.{◌≡◌, ◌⊎◌, ℕ, ◌+◌, ◌*◌, ◌^◌, ◌<◌, ◌≤◌, false, List, [], length, take, slice_get}
 use Rattle.std.specs.Prelude.{Option, Some, None, Result, Ok, Err}
-use Rattle.ctr_port.specs.InHand.{Of, text_of}
+use Rattle.ctr_port.specs.InHand.{Of}
 use Rattle.replay_engine.specs.Breaks.{AreAllowed, reason_of}
 use Rattle.replay_engine.specs.Counts.{CountsWithin}
 use Rattle.replay_engine.specs.Engine.{EngineState}

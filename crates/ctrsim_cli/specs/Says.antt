@@ -9,7 +9,7 @@ use Rattle.sched_text.specs.declared.limits.TheConstants.{WINDOW}
 use Rattle.sched_text.specs.declared.schedule.Command.{Command}
 use Rattle.sched_text.specs.declared.schedule.Command.TheVariants.{End}
 use Rattle.sched_text.specs.declared.schedule.Header.{Header}
-use Rattle.ctrsim_cli.specs.Schedule.{Schedule, followed_by}
+use Rattle.ctrsim_cli.specs.Schedule.{Schedule}
 
 -- these are the images of the tasks, each whole in the text
 pub record AreImages (text : List ℕ) (h : Header) (images : List (List ℕ)) : Type 0 where

@@ -1,9 +1,8 @@
-use Rattle.std.proofs.Common.{◌≡◌, ◌≤◌, refl, sym, ap, ◌∙◌, subst, ℕ, List, [], replicate, arith}
-use Rattle.replay_engine.specs.Engine.{EngineState}
-use Rattle.replay_engine.specs.Start.{AreMemories, memories, fresh_engine}
+use Rattle.std.proofs.Common.{sym, subst}
+use Rattle.replay_engine.specs.Start.{AreMemories}
 use Rattle.sched_text.specs.Header.{IsHeader}
 use Rattle.sched_text.specs.declared.schedule.Header.{Header}
-use Rattle.ctrsim_cli.specs.Demo.{demo_image, demo_header, demo_lines}
+use Rattle.ctrsim_cli.specs.Demo.{demo_lines}
 use Rattle.ctrsim_cli.proofs.DemoLaws.{demo_is_header, demo_memories, ready}
 use Rattle.ctrsim_cli.proofs.demo.begin.Goals as goal
 

@@ -1,6 +1,5 @@
-use Rattle.std.proofs.Common.{◌≡◌, sym, ap, ◌∙◌, subst, List, ℕ}
+use Rattle.std.proofs.Common.{◌∙◌, subst, List, ℕ}
 use Rattle.ctr_port.specs.Appended.{GainsPart}
-use Rattle.ctrsim_cli.specs.Demo.{demo_schedule, summary_of}
 use Rattle.ctrsim_cli.proofs.SummaryLaws.{summed}
 use Rattle.ctrsim_cli.proofs.demo.demo.Goals as goal
 

@@ -1,11 +1,11 @@
-use Rattle.std.proofs.Common.{◌≡◌, ◌≤◌, ℕ, List, [], ◌∷◌, ◌++◌, length, ap, ◌∙◌, subst, take, get_or, arith, refl}
+use Rattle.std.proofs.Common.{ℕ, List, [], ◌∷◌, ◌++◌, ap, ◌∙◌, take, get_or, arith, refl}
 use Rattle.std.proofs.lemmas.Result.{err_from_is_err_and}
 use Rattle.ctr_port.specs.InHand.{text_of}
 use Rattle.rv_hart.specs.Memory.{memory_of}
 use Rattle.sched_text.specs.Outcomes.{total}
 use Rattle.sched_text.specs.declared.schedule.TaskLine.{TaskLine}
 use Rattle.sched_text.proofs.JoinLaws.{stops_short, fits_in}
-use Rattle.ctrsim_cli.proofs.Images.{first_none, one_more, all_read, only_behind}
+use Rattle.ctrsim_cli.proofs.Images.{first_none, one_more, only_behind}
 use Rattle.ctrsim_cli.proofs.memories.read_memories.Goals as goal
 
 pub loop-task-init : goal.loop-task-init

@@ -1,4 +1,4 @@
-use Rattle.std.proofs.Common.{◌≡◌, ◌≤◌, length, take, None}
+use Rattle.std.proofs.Common.{◌≡◌, ◌≤◌, None}
 use Rattle.ctrsim_cli.specs.Parts.{FirstMemories}
 use Rattle.ctr_port.specs.InHand.{text_of}
 use Rattle.ctrsim_cli.proofs.memories.read_memories.Given as goal

@@ -1,17 +1,14 @@
-use Rattle.std.proofs.Common.{◌≡◌, refl, ℕ, ◌+◌, ◌*◌, ◌^◌, ◌≤◌, ◌<◌, List, [], sym, ap, ◌∙◌, subst, arith}
-use Rattle.std.specs.Prelude.{Ok, Err, Option, Some}
-use Rattle.ctr_port.specs.InHand.{Of, text_of}
+use Rattle.std.proofs.Common.{◌≡◌, refl, ℕ, ◌+◌, ◌*◌, ◌^◌, [], sym, ◌∙◌, subst, arith}
+use Rattle.std.specs.Prelude.{Err, Some}
+use Rattle.ctr_port.specs.InHand.{text_of}
 use Rattle.replay_engine.specs.Outcome.{IsOutcome, IsPerformed}
-use Rattle.replay_engine.specs.Runs.{spellings}
 use Rattle.replay_engine.specs.Stands.{StandsFor}
 use Rattle.replay_engine.specs.StandsAfter.{StandsAfter, StandsForMore}
 use Rattle.replay_engine.specs.Tasks.{present_states}
 use Rattle.replay_engine.specs.View.{Plan, view_of}
-use Rattle.sched_text.specs.Commands.{command_at}
-use Rattle.sched_text.specs.declared.schedule.Command.{Command}
 use Rattle.ctrsim_cli.specs.declared.fault.Fault.{Fault}
 use Rattle.ctrsim_cli.specs.Parts.{Performed, PerformAnswer}
-use Rattle.ctrsim_cli.proofs.PerformLaws.{first_commands, end_is, counted_one, performed_more, not_performed, not_read}
+use Rattle.ctrsim_cli.proofs.PerformLaws.{first_commands, counted_one, performed_more, not_performed}
 use Rattle.ctrsim_cli.proofs.performing.perform_all.Goals as goal
 
 pub loop-command-init : goal.loop-command-init

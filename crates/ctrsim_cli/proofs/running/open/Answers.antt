@@ -1,10 +1,7 @@
-use Rattle.std.proofs.Common.{◌≡◌, ◌≤◌, refl, sym, ap, ◌∙◌, subst, ℕ, List, []}
+use Rattle.std.proofs.Common.{◌≤◌, refl, sym, ap, subst, ℕ, List, []}
 use Rattle.ctr_port.specs.InHand.{text_of, Of}
 use Rattle.sched_text.specs.Header.{HasHeader}
-use Rattle.replay_engine.specs.Counts.{CountsWithin}
 use Rattle.replay_engine.specs.Engine.{EngineState}
-use Rattle.replay_engine.specs.Start.{fresh_engine}
-use Rattle.replay_engine.specs.Tasks.{PlacesAgree}
 use Rattle.replay_engine.specs.View.{Plan}
 use Rattle.sched_text.specs.declared.schedule.TaskLine.{TaskLine}
 use Rattle.ctrsim_cli.specs.Parts.{MemoriesRead}

@@ -1,7 +1,7 @@
-use Rattle.std.proofs.Common.{◌≡◌, sym, ap, ◌∙◌, subst, List, [], ℕ}
-use Rattle.std.specs.Prelude.{Option, Some, Err}
+use Rattle.std.proofs.Common.{◌≡◌, sym, ap, ◌∙◌, subst, List}
+use Rattle.std.specs.Prelude.{Some, Err}
 use Rattle.ctr_port.specs.InHand.{text_of, Of}
-use Rattle.rv_hart.specs.Hart.{HartState, fresh_harts}
+use Rattle.rv_hart.specs.Hart.{HartState}
 use Rattle.replay_engine.specs.Tasks.{PresentState, present_states}
 use Rattle.replay_engine.specs.View.{Plan}
 use Rattle.sched_text.specs.Reader.{Reader}

@@ -1,4 +1,4 @@
-use Rattle.std.proofs.Common.{arith, length}
+use Rattle.std.proofs.Common.{arith}
 use Rattle.ctrsim_cli.proofs.CountLaws.{piece_passed}
 use Rattle.ctrsim_cli.proofs.counting.CounterSink.write.Goals as goal
 
