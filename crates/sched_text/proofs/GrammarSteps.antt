@@ -79,8 +79,8 @@ other_count n k m c d e other =
     let count : n ≡ k = eqb-true n k (both_parts (nat_eq n k) c e) in
     ap (λ (j : ℕ). nat_eq j m && d) count ∙ ap (λ (b : Bool). b && d) other
 
-no_other : (row first second : List ℕ) (k m : ℕ) → has_form row first k ≡ true → nat_eq k m ≡ false → has_form row second m ≡ false
-no_other row first second k m e other = other_count (length (words row)) k m (bytes_eq (word row 0) first) (bytes_eq (word row 0) second) e other
+no_other : (text first second : List ℕ) (k m : ℕ) → has_form text first k ≡ true → nat_eq k m ≡ false → has_form text second m ≡ false
+no_other text first second k m e other = other_count (length (words text)) k m (bytes_eq (word text 0) first) (bytes_eq (word text 0) second) e other
 
 -- a task line
 task_added : (h : Header) (row : List ℕ) (t : TaskLine) → task_of row ≡ Ok t → length h.tasks < 64 → with_task h row ≡ Ok (Rows (record h { tasks = h.tasks ++ t ∷ [] }))
