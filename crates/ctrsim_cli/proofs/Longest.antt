@@ -23,7 +23,7 @@ use Rattle.perf_sample.specs.Reader.{IsCutOff}
 use Rattle.perf_sample.proofs.OneSpelling.{one_spelling}
 use Rattle.perf_sample.proofs.ExactLaws.{clash, spelled_some}
 use Rattle.ctrsim_cli.specs.SampleText.{shown_sample}
-use Rattle.ctrsim_cli.specs.Showing.{joined, texts, AreSpelled, Went, AllShown, Refused, Unwritten, Shown, ByCause, Told, Showed, TakenShown, CutAt}
+use Rattle.ctrsim_cli.specs.Showing.{joined, texts, AreSpelled, AreShown, AllShown, Refused, Unwritten, Shown, ByCause, BytesAnswer, ShowAnswer, TakenShown, CutAt}
 use Rattle.ctrsim_cli.proofs.Shows.{joined_more, texts_last, One}
 
 pub joined_cons : (layout : LayoutWords) (x : Sample) (xs : List Sample) → joined layout (x ∷ xs) ≡ spelling layout x ++ joined layout xs
@@ -122,7 +122,7 @@ broken_stops : (layout : LayoutWords) (rest u : List ℕ) (f : SampleFault) → 
 broken_stops layout rest u f breaks s x z spells e = clash layout s x z u f spells (subst (λ (t : List ℕ). Breaks layout t f u) e breaks)
 
 pub shown_up_to : {K : Type 0} (gained : K → List ℕ → K → Type 0) (layout : LayoutWords) (bytes rest : List ℕ) (middle : Option (List ℕ)) (old new : K) (samples : List Sample)
-    → Went gained layout (Some bytes) middle old new samples → middle ≡ Some rest
+    → AreShown gained layout (Some bytes) middle old new samples → middle ≡ Some rest
     → (length samples < most → (s : Sample) (x z : List ℕ) → Spells layout s x → rest ≡ x ++ z → ⊥)
     → (text : List ℕ) × Shown layout bytes text × gained old text new
 shown_up_to gained layout bytes rest middle old new samples went is stops =
@@ -146,7 +146,7 @@ by_bytes layout rest None f p = absurd p
 by_bytes layout rest (Some u) f p = broken_stops layout rest u f p
 
 pub shown_refused : {K : Type 0} (gained : K → List ℕ → K → Type 0) (layout : LayoutWords) (bytes : List ℕ) (middle left' : Option (List ℕ)) (old new : K) (f : SampleFault)
-    (samples : List Sample) → Went gained layout (Some bytes) middle old new samples → (why : Cause) → Refuses why layout (length samples) middle left' f
+    (samples : List Sample) → AreShown gained layout (Some bytes) middle old new samples → (why : Cause) → Refuses why layout (length samples) middle left' f
     → ByCause why gained layout bytes old new
 shown_refused gained layout bytes middle left' old new f samples went OfRead refuses = tt
 shown_refused gained layout bytes middle left' old new f samples went OfCount refuses =
@@ -158,8 +158,8 @@ shown_refused gained layout bytes middle left' old new f samples went OfBytes re
     (λ less. by_bytes layout told.0 left' f (subst (λ m. Of m left' (λ t t'. Breaks layout t f t')) told.1 refuses.1))
 
 pub told_of : {K : Type 0} (gained : K → List ℕ → K → Type 0) → ((a b c : K) (x y : List ℕ) → gained a x b → gained b y c → gained a (x ++ y) c)
-    → (layout : LayoutWords) (bytes : List ℕ) (left' : Option (List ℕ)) (old new : K) (r : Result ⊤ ShowFault) → Showed gained layout (Some bytes) left' old new r
-    → Told gained layout bytes old new r
+    → (layout : LayoutWords) (bytes : List ℕ) (left' : Option (List ℕ)) (old new : K) (r : Result ⊤ ShowFault) → ShowAnswer gained layout (Some bytes) left' old new r
+    → BytesAnswer gained layout bytes old new r
 told_of gained joins layout bytes left' old new (Ok u) so = shown_all gained layout bytes left' old new so
 told_of gained joins layout bytes left' old new (Err (fault.Sample f at)) so =
     shown_refused gained layout bytes so.middle left' old new f so.samples so.went (cause_of f) so.refuses
@@ -190,8 +190,8 @@ cut_of gained layout at left left' old new so =
     )
 
 pub cut_at : {K : Type 0} (gained : K → List ℕ → K → Type 0) (layout : LayoutWords) (left left' : Option (List ℕ)) (old new : K) (r : Result ⊤ ShowFault)
-    → Showed gained layout left left' old new r → CutAt gained layout left left' old new r
-cut_at gained layout left left' old new r so at e = cut_of gained layout at left left' old new (subst (Showed gained layout left left' old new) e so)
+    → ShowAnswer gained layout left left' old new r → CutAt gained layout left left' old new r
+cut_at gained layout left left' old new r so at e = cut_of gained layout at left left' old new (subst (ShowAnswer gained layout left left' old new) e so)
 
 -- that text is one
 pub one_text : (layout : LayoutWords) (bytes text other : List ℕ) → Shown layout bytes text → Shown layout bytes other → text ≡ other

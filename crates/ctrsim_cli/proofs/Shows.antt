@@ -11,7 +11,7 @@ use Rattle.perf_sample.specs.Spelling.{spelling, Spells}
 use Rattle.perf_sample.specs.Range.{IsSample}
 use Rattle.perf_sample.specs.Reader.{Reader, most, fresh, after, IsNextAnswer}
 use Rattle.ctrsim_cli.specs.SampleText.{shown_sample}
-use Rattle.ctrsim_cli.specs.Showing.{joined, texts, Went}
+use Rattle.ctrsim_cli.specs.Showing.{joined, texts, AreShown}
 
 zero-add : (n : ℕ) → 0 + n ≡ n
 zero-add n = omega arith
@@ -54,14 +54,14 @@ texts_last layout samples s = texts_more layout 0 samples s ∙ ap (λ (n : ℕ)
 -- a reader that has given these samples and refused nothing
 pub record Shows {K : Type 0} (gained : K → List ℕ → K → Type 0) (layout : LayoutWords) (left left' : Option (List ℕ)) (old new : K) (r : Reader) : Type 0 where
   pub samples : List Sample
-  pub went : Went gained layout left left' old new samples
+  pub went : AreShown gained layout left left' old new samples
   pub layout_is : r.layout ≡ layout
   pub free : r.refused ≡ None
   pub given : r.given ≡ length samples
   pub taken : r.taken ≡ length (joined layout samples)
 
 pub went_none : {K : Type 0} (gained : K → List ℕ → K → Type 0) (layout : LayoutWords) (left : Option (List ℕ)) (old : K) → gained old [] old
-    → Went gained layout left left old old []
+    → AreShown gained layout left left old old []
 went_none gained layout left old nothing = record {
   spelled = All-nil (One layout);
   few = omega arith;
@@ -71,9 +71,9 @@ went_none gained layout left old nothing = record {
 
 pub went_more : {K : Type 0} (gained : K → List ℕ → K → Type 0) → ((a b c : K) (x y : List ℕ) → gained a x b → gained b y c → gained a (x ++ y) c)
     → (layout : LayoutWords) (left middle left' : Option (List ℕ)) (old mid new : K) (samples : List Sample) (s : Sample) (bytes : List ℕ)
-    → Went gained layout left middle old mid samples → length samples < most → IsSample s → Spells layout s bytes → Consumes middle left' bytes
+    → AreShown gained layout left middle old mid samples → length samples < most → IsSample s → Spells layout s bytes → Consumes middle left' bytes
     → gained mid (shown_sample layout (length (joined layout samples)) s) new
-    → Went gained layout left left' old new (samples ++ s ∷ [])
+    → AreShown gained layout left left' old new (samples ++ s ∷ [])
 went_more gained joins layout left middle left' old mid new samples s bytes went few is spells took wrote =
     let same = spells.bytes_are in
     record {

@@ -44,7 +44,7 @@ pub record Shown (layout : LayoutWords) (bytes : List ℕ) (text : List ℕ) : T
   pub is : text ≡ texts layout 0 samples
 
 -- samples were read, the source lost the join of their spellings, and the sink gained their texts
-pub record Went {K : Type 0} (gained : K → List ℕ → K → Type 0) (layout : LayoutWords)
+pub record AreShown {K : Type 0} (gained : K → List ℕ → K → Type 0) (layout : LayoutWords)
     (left left' : Option (List ℕ)) (old new : K) (samples : List Sample) : Type 0 where
   pub spelled : AreSpelled layout samples
   pub few : length samples ≤ most
@@ -56,7 +56,7 @@ pub record AllShown {K : Type 0} (gained : K → List ℕ → K → Type 0) (lay
     (left left' : Option (List ℕ)) (old new : K) : Type 0 where
   pub samples : List Sample
   pub middle : Option (List ℕ)
-  pub went : Went gained layout left middle old new samples
+  pub went : AreShown gained layout left middle old new samples
   pub ended : Of middle left' (λ t t'. (t ≡ []) × (t' ≡ []))
 
 -- the bytes at the offset are no sample, or a read failed, or there were 2^24 samples before
@@ -64,7 +64,7 @@ pub record Refused {K : Type 0} (gained : K → List ℕ → K → Type 0) (layo
     (left left' : Option (List ℕ)) (old new : K) (f : SampleFault) (offset : ℕ) : Type 0 where
   pub samples : List Sample
   pub middle : Option (List ℕ)
-  pub went : Went gained layout left middle old new samples
+  pub went : AreShown gained layout left middle old new samples
   pub refuses : Refuses (cause_of f) layout (length samples) middle left' f
   pub at : offset ≡ length (joined layout samples)
 
@@ -76,17 +76,17 @@ pub record Unwritten {K : Type 0} (gained : K → List ℕ → K → Type 0) (la
   pub few : length samples < most
   pub middle : K
   pub before : Option (List ℕ)
-  pub went : Went gained layout left before old middle samples
+  pub went : AreShown gained layout left before old middle samples
   pub taken : Consumes before left' (spelling layout last)
   pub fits : IsSample last × Spells layout last (spelling layout last)
   pub part : GainsPart gained middle new (shown_sample layout (length (joined layout samples)) last)
 
-abbrev pub Showed : {K : Type 0} → (K → List ℕ → K → Type 0) → LayoutWords → Option (List ℕ) →
+abbrev pub ShowAnswer : {K : Type 0} → (K → List ℕ → K → Type 0) → LayoutWords → Option (List ℕ) →
     Option (List ℕ) → K → K → Result ⊤ ShowFault → Type 0
-Showed gained layout left left' old new (Ok _) = AllShown gained layout left left' old new
-Showed gained layout left left' old new (Err (fault.Sample f offset)) =
+ShowAnswer gained layout left left' old new (Ok _) = AllShown gained layout left left' old new
+ShowAnswer gained layout left left' old new (Err (fault.Sample f offset)) =
     Refused gained layout left left' old new f offset
-Showed gained layout left left' old new (Err fault.Write) =
+ShowAnswer gained layout left left' old new (Err fault.Write) =
     Unwritten gained layout left left' old new
 
 -- of a source that tells its bytes: the sink gained that text, or after a fault of its own a proper
@@ -99,13 +99,13 @@ ByCause OfCount gained layout bytes old new = (text : List ℕ)
 ByCause OfBytes gained layout bytes old new = (text : List ℕ)
     × Shown layout bytes text × gained old text new
 
-abbrev pub Told : {K : Type 0} → (K → List ℕ → K → Type 0) → LayoutWords → List ℕ → K → K →
+abbrev pub BytesAnswer : {K : Type 0} → (K → List ℕ → K → Type 0) → LayoutWords → List ℕ → K → K →
     Result ⊤ ShowFault → Type 0
-Told gained layout bytes old new (Ok _) = (text : List ℕ)
+BytesAnswer gained layout bytes old new (Ok _) = (text : List ℕ)
     × Shown layout bytes text × gained old text new
-Told gained layout bytes old new (Err (fault.Sample f offset)) =
+BytesAnswer gained layout bytes old new (Err (fault.Sample f offset)) =
     ByCause (cause_of f) gained layout bytes old new
-Told gained layout bytes old new (Err fault.Write) =
+BytesAnswer gained layout bytes old new (Err fault.Write) =
     (text : List ℕ) → Shown layout bytes text → GainsPart gained old new text
 
 -- status 3: the text of the bytes that were taken

@@ -4,7 +4,7 @@ ghost use Rattle.std.specs.Prelude.{◌≡◌, ◌≤◌, ℕ, OnOk, OnErr, Err,
 ghost use Rattle.ctr_port.specs.Counts.{Rose};
 ghost use Rattle.ctr_port.specs.Appended.{GainsPart};
 ghost use Rattle.ctrsim_cli.specs.SampleText.{shown_sample};
-ghost use Rattle.ctrsim_cli.specs.Showing.{Showed, Told, CutAt};
+ghost use Rattle.ctrsim_cli.specs.Showing.{ShowAnswer, BytesAnswer, CutAt};
 ghost use Rattle.perf_sample.specs.declared.faults.SampleFault.{SampleFault};
 ghost use Rattle.ctrsim_cli.specs.declared.showing.ShowFault.{ShowFault};
 
@@ -45,7 +45,7 @@ fn show_each<S: Source, K: Sink>(
     source: &mut S,
     sink: &mut K,
 ) -> Result<(), ShowFault>
-    ensures showed { Showed K.gained layout (S.left source.old) (S.left source.new)
+    ensures showed { ShowAnswer K.gained layout (S.left source.old) (S.left source.new)
         sink.old sink.new result }
     ensures source_later { S.faults source.old ≤ S.faults source.new }
     ensures sink_later { K.faults sink.old ≤ K.faults sink.new }
@@ -74,12 +74,12 @@ pub fn show<S: Source, K: Sink>(
     source: &mut S,
     sink: &mut K,
 ) -> Result<(), ShowFault>
-    ensures showed { Showed K.gained layout (S.left source.old) (S.left source.new)
+    ensures showed { ShowAnswer K.gained layout (S.left source.old) (S.left source.new)
         sink.old sink.new result }
     // Of a source that tells its bytes: the text of the longest join of spellings that they begin
     // with.
     ensures told { (bytes : List ℕ) → S.left source.old ≡ Some bytes →
-        Told K.gained layout bytes sink.old sink.new result }
+        BytesAnswer K.gained layout bytes sink.old sink.new result }
     ensures cut { CutAt K.gained layout (S.left source.old) (S.left source.new)
         sink.old sink.new result }
     ensures source_later { S.faults source.old ≤ S.faults source.new }
