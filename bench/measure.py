@@ -10,6 +10,7 @@ import time
 HERE = os.path.dirname(os.path.abspath(__file__))
 TOP = os.path.join(HERE, "..")
 HAS_VALGRIND = shutil.which("valgrind") is not None
+HAS_STRACE = shutil.which("strace") is not None
 
 
 def compiled(source, folder):
@@ -25,6 +26,29 @@ def seconds(command, text):
     begin = time.perf_counter()
     subprocess.run(command, input=text, stdout=subprocess.DEVNULL, check=True)
     return time.perf_counter() - begin
+
+
+def seconds_of_file(command, path):
+    """The same, with a file as standard input."""
+    with open(path, "rb") as f:
+        begin = time.perf_counter()
+        subprocess.run(command, stdin=f, stdout=subprocess.DEVNULL, check=True)
+        return time.perf_counter() - begin
+
+
+def system_calls(command, path, folder):
+    """How many reads and writes a command makes, with a file as standard input."""
+    out = os.path.join(folder, "strace.out")
+    with open(path, "rb") as f:
+        subprocess.run(["strace", "-f", "-c", "-e", "trace=read,write", "-o", out] + command, stdin=f,
+                       stdout=subprocess.DEVNULL, stderr=subprocess.DEVNULL, check=True)
+    calls = {"read": 0, "write": 0}
+    with open(out, encoding="ascii") as f:
+        for line in f:
+            words = line.split()
+            if words and words[-1] in calls:
+                calls[words[-1]] = int(words[3])
+    return calls["read"], calls["write"]
 
 
 def host_instructions(command, text, folder):
