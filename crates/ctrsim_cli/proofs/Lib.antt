@@ -15,3 +15,5 @@ mod DemoLaws
 mod TopLaws
 mod SummaryLaws
 mod ScheduleLaws
+mod DemoRows
+mod DemoText

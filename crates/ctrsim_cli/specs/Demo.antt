@@ -1,7 +1,7 @@
 -- The schedule of `demo N`, and the line that says what its samples come to.
 use Rattle.std.specs.Prelude.{ℕ, zero, suc, ◌+◌, ◌*◌, ◌/◌, ◌%◌, List, [], ◌∷◌, ◌++◌, length}
 use Rattle.std.specs.Prelude.{replicate, Option, Some, None, codes}
-use Rattle.std.specs.List.{sum_by}
+use Rattle.std.specs.List.{sum_by, flat_map}
 use Rattle.ctr_port.specs.Appended.{GainsPart}
 use Rattle.perf_sample.specs.declared.sample.Sample.{Sample}
 use Rattle.rv_hart.specs.Hart.{HartState}
@@ -85,3 +85,38 @@ DemoEnds gained old new harts n (Some Usage) = ⊥
 DemoEnds gained old new harts n (Some ReadFault) = ⊥
 DemoEnds gained old new harts n (Some (Line f)) = ⊥
 DemoEnds gained old new harts n (Some (SampleAt at fault)) = ⊥
+
+-- a line of text
+abbrev pub line : List ℕ → List ℕ
+line row = row ++ 10 ∷ []
+
+abbrev pub task_row : ℕ → List ℕ
+task_row t = codes "task 12 12 " ++ (dec (t % 5) ++ codes " 4 0 7")
+
+abbrev pub task_rows : ℕ → List (List ℕ)
+task_rows zero = []
+task_rows (suc t) = task_rows t ++ task_row t ∷ []
+
+abbrev pub header_rows : List (List ℕ)
+header_rows = codes "ctr-schedule 1" ∷ codes "harts 4" ∷ codes "layout 803"
+    ∷ (task_rows 8 ++ codes "images" ∷ [])
+
+abbrev pub run_row : ℕ → ℕ → ℕ → List ℕ
+run_row h t s = codes "run " ++ (dec h ++ (codes " " ++ (dec t ++ (codes " " ++ dec s))))
+
+abbrev pub sample_row : ℕ → List ℕ
+sample_row t = codes "sample " ++ dec t
+
+-- the lines of turn i
+abbrev pub turn_text : ℕ → List ℕ
+turn_text i = line (run_row ((i + i / 8) % 4) (i % 8) (1 + (i * i + 3 * i) % 97))
+    ++ line (sample_row (i % 8))
+
+abbrev pub turns_text : ℕ → List ℕ
+turns_text zero = []
+turns_text (suc n) = turns_text n ++ turn_text n
+
+-- the same schedule as a text
+abbrev pub demo_text : ℕ → List ℕ
+demo_text n = flat_map line header_rows
+    ++ (flat_map (λ image. image) (replicate 8 demo_image) ++ (turns_text n ++ line (codes "end")))

@@ -1,11 +1,12 @@
 -- Laws of whole schedules.
-use Rattle.std.specs.Prelude.{◌≡◌, ℕ, ◌<◌, List, [], ◌∷◌, ◌++◌, length}
+use Rattle.std.specs.Prelude.{◌≡◌, ℕ, ◌<◌, ◌≤◌, List, [], ◌∷◌, ◌++◌, length}
 use Rattle.std.specs.List.{All}
 use Rattle.perf_sample.specs.Spelling.{spelling}
 use Rattle.perf_sample.specs.declared.sample.Sample.{Sample}
 use Rattle.replay_engine.specs.Runs.{IsCut}
 use Rattle.replay_engine.specs.Visible.{IsLoneSample}
 use Rattle.sched_text.specs.declared.schedule.Command.{Command}
+use Rattle.ctrsim_cli.specs.Demo.{demo_text, demo_schedule}
 use Rattle.ctrsim_cli.specs.RunEnds.{AreMade}
 use Rattle.ctrsim_cli.specs.Says.{IsAcceptedAs}
 use Rattle.ctrsim_cli.specs.Schedule.{Schedule, tasks_of, samples_of, layout_of, output_of, followed_by}
@@ -30,3 +31,7 @@ WrittenIsPrefix = (s : Schedule) (c made : Command) (before rest : List Command)
     IsCut last (spelling (layout_of s) failed) →
     (more : List ℕ) × (0 < length more) × (output_of (followed_by s (c ∷ rest))
     ≡ (output_of (followed_by s before) ++ last) ++ more)
+
+-- the text of `demo` is accepted, as the schedule that it performs
+abbrev pub DemoIsAccepted : Type 0
+DemoIsAccepted = (n : ℕ) → n ≤ 100000 → IsAcceptedAs (demo_text n) (demo_schedule n)

@@ -1,6 +1,7 @@
 //! Laws of whole schedules.
 
 ghost use Rattle.ctrsim_cli.specs.Laws.{AcceptedAsOne, SamplesAreOfLoneRuns, WrittenIsPrefix};
+ghost use Rattle.ctrsim_cli.specs.Laws.{DemoIsAccepted};
 
 use replay_engine::engine_laws;
 
@@ -14,6 +15,9 @@ pub fn schedule_laws()
 
     // What is written before a write fails is a proper prefix of the whole output.
     ensures prefix { WrittenIsPrefix }
+
+    // What `demo` performs is what `run` reads in its text, which is accepted.
+    ensures demo { DemoIsAccepted }
 {
     engine_laws();
 }

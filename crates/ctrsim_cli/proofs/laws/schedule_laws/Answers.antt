@@ -1,3 +1,4 @@
+use Rattle.ctrsim_cli.proofs.DemoText.{demo_is_accepted}
 use Rattle.ctrsim_cli.proofs.ScheduleLaws.{accepted_as_one, of_lone_runs, written_is_prefix}
 use Rattle.ctrsim_cli.proofs.laws.schedule_laws.Goals as goal
 
@@ -9,3 +10,6 @@ returns-clause-lone c = of_lone_runs c.engine_laws.ensures.visible c.engine_laws
 
 pub returns-clause-prefix : goal.returns-clause-prefix
 returns-clause-prefix c = written_is_prefix c.engine_laws.ensures.samples
+
+pub returns-clause-demo : goal.returns-clause-demo
+returns-clause-demo c = demo_is_accepted
