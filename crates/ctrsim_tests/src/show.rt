@@ -2,6 +2,7 @@
 use crate::input::{Ended, call, run};
 use ctr_port::{MemSink, MemSource, NoMemory};
 use ctrsim_cli::{Fault, Outcome};
+use std::alloc::{AllocError, Global};
 use std::process::Abort;
 
 const DONE: Outcome = Outcome {
@@ -9,15 +10,15 @@ const DONE: Outcome = Outcome {
     fault: None,
 };
 
-// A sample of the layout 803.
-const CALL: [u8; 56] = [
-    0x09, 0, 0, 0, 3, 0, 0x38, 0, // a sample of mode M, 56 bytes
-    0x08, 0, 0, 0x80, 0, 0, 0, 0, // ip
-    1, 0, 0, 0, 1, 0, 0, 0, // pid, tid
-    1, 0, 0, 0, 0, 0, 0, 0, // one branch
-    0, 0, 0, 0x80, 0, 0, 0, 0, // from
-    0x08, 0, 0, 0x80, 0, 0, 0, 0, // to
-    0, 0, 0x40, 0, 0, 0, 0, 0, // flags: a call
+// The fields of a sample of the layout 803, as words of eight bytes.
+const CALL: [u64; 7] = [
+    0x0038_0003_0000_0009, // a sample of mode M, 56 bytes
+    0x8000_0008, // ip
+    0x0001_0000_0001, // pid, tid
+    1, // one branch
+    0x8000_0000, // from
+    0x8000_0008, // to
+    0x0040_0000, // flags: a call
 ];
 
 const CALL_TEXT: &[u8] = b"sample 0 misc 3 size 56\n\
@@ -27,20 +28,20 @@ branches 1\n\
 0x0000000080000000 0x0000000080000008 call 0x0000000000400000\n";
 
 // Two samples of the layout 883, the second without branches.
-const TWO: [u8; 104] = [
-    0x09, 0, 0, 0, 1, 0, 0x40, 0, // a sample of mode S, 64 bytes
-    0x04, 0, 0, 0x80, 0, 0, 0, 0, // ip
-    1, 0, 0, 0, 1, 0, 0, 0, // pid, tid
-    7, 0, 0, 0, 0, 0, 0, 0, // cpu
-    1, 0, 0, 0, 0, 0, 0, 0, // one branch
-    0xFC, 0xFF, 0xFF, 0x7F, 0, 0, 0, 0xFF, // from
-    0x04, 0, 0, 0x80, 0, 0, 0, 0, // to
-    1, 0, 0x10, 0, 0, 0, 0, 0, // flags: a conditional branch, mispredicted
-    0x09, 0, 0, 0, 3, 0, 0x28, 0, // a sample of mode M, 40 bytes
-    0xEF, 0xCD, 0xAB, 0x89, 0x67, 0x45, 0x23, 0x01, // ip
-    2, 0, 0, 0, 2, 0, 0, 0, // pid, tid
-    0, 0, 0, 0, 0, 0, 0, 0, // cpu
-    0, 0, 0, 0, 0, 0, 0, 0, // no branch
+const TWO: [u64; 13] = [
+    0x0040_0001_0000_0009, // a sample of mode S, 64 bytes
+    0x8000_0004, // ip
+    0x0001_0000_0001, // pid, tid
+    7, // cpu
+    1, // one branch
+    0xFF00_0000_7FFF_FFFC, // from
+    0x8000_0004, // to
+    0x0010_0001, // flags: a conditional branch, mispredicted
+    0x0028_0003_0000_0009, // a sample of mode M, 40 bytes
+    0x0123_4567_89AB_CDEF, // ip
+    0x0002_0000_0002, // pid, tid
+    0, // cpu
+    0, // no branch
 ];
 
 const TWO_TEXT: &[u8] = b"sample 0 misc 1 size 64\n\
@@ -56,19 +57,19 @@ cpu 0\n\
 branches 0\n";
 
 // A sample of every field, without branches, with the place of the youngest entry.
-const ALL: [u8; 96] = [
-    0x09, 0, 0, 0, 5, 0, 0x60, 0, // a sample of mode VU, 96 bytes
-    0x10, 0, 0, 0, 0, 0, 0, 0, // identifier
-    0x08, 0, 0, 0x80, 0, 0, 0, 0, // ip
-    9, 0, 0, 0, 10, 0, 0, 0, // pid, tid
-    0xFF, 0xFF, 0xFF, 0xFF, 0xFF, 0xFF, 0xFF, 0xFF, // time
-    0xAD, 0xDE, 0, 0, 0, 0, 0, 0, // addr
-    0x11, 0, 0, 0, 0, 0, 0, 0, // id
-    0x12, 0, 0, 0, 0, 0, 0, 0, // stream_id
-    15, 0, 0, 0, 0, 0, 0, 0, // cpu
-    100, 0, 0, 0, 0, 0, 0, 0, // period
-    0, 0, 0, 0, 0, 0, 0, 0, // no branch
-    0xFF, 0xFF, 0xFF, 0xFF, 0xFF, 0xFF, 0xFF, 0xFF, // no youngest entry
+const ALL: [u64; 12] = [
+    0x0060_0005_0000_0009, // a sample of mode VU, 96 bytes
+    16, // identifier
+    0x8000_0008, // ip
+    0x000A_0000_0009, // pid, tid
+    0xFFFF_FFFF_FFFF_FFFF, // time
+    0xDEAD, // addr
+    17, // id
+    18, // stream_id
+    15, // cpu
+    100, // period
+    0, // no branch
+    0xFFFF_FFFF_FFFF_FFFF, // no youngest entry
 ];
 
 const ALL_TEXT: &[u8] = b"sample 0 misc 5 size 96\n\
@@ -84,6 +85,15 @@ period 100\n\
 branches 0\n\
 hw_index 0xffffffffffffffff\n";
 
+// The bytes of such words, the lowest first.
+fn bytes_of(alloc: Global, words: &[u64]) -> Result<Vec<u8>, AllocError> {
+    let mut bytes = Vec::new(alloc);
+    for word in words {
+        bytes.extend_from_slice(&word.to_le_bytes())?;
+    }
+    Ok(bytes)
+}
+
 // A call showed this text and nothing else.
 fn shows(rt: &impl Abort, name: &str, ended: &Ended, text: &[u8]) {
     assert_eq!(rt; ended.outcome, DONE, "{name}");
@@ -94,19 +104,22 @@ fn shows(rt: &impl Abort, name: &str, ended: &Ended, text: &[u8]) {
 
 #[test]
 fn samples_are_shown_line_by_line(rt: HostRuntime) -> Result<(), NoMemory> {
-    let ended = run(rt.alloc(), &["show", "803"], &CALL, &[])?;
+    let one = bytes_of(rt.alloc(), &CALL)?;
+    let ended = run(rt.alloc(), &["show", "803"], &one, &[])?;
     shows(&rt, "one call", &ended, CALL_TEXT);
-    let ended = run(rt.alloc(), &["show", "883"], &TWO, &[5])?;
+    let two = bytes_of(rt.alloc(), &TWO)?;
+    let ended = run(rt.alloc(), &["show", "883"], &two, &[5])?;
     shows(&rt, "two samples in pieces of 5", &ended, TWO_TEXT);
-    let ended = run(rt.alloc(), &["show", "883"], &TWO, &[1])?;
+    let ended = run(rt.alloc(), &["show", "883"], &two, &[1])?;
     shows(&rt, "two samples in pieces of 1", &ended, TWO_TEXT);
     Ok(())
 }
 
 #[test]
 fn every_field_has_its_line(rt: HostRuntime) -> Result<(), NoMemory> {
+    let all = bytes_of(rt.alloc(), &ALL)?;
     for word in ["10bcf", "0000000000010BCF"] {
-        let ended = run(rt.alloc(), &["show", word, "20000"], &ALL, &[])?;
+        let ended = run(rt.alloc(), &["show", word, "20000"], &all, &[])?;
         shows(&rt, "every field", &ended, ALL_TEXT);
     }
     let ended = run(rt.alloc(), &["show", "803", "0"], &[], &[])?;
@@ -214,8 +227,7 @@ fn refuses(rt: &impl Abort, ended: &Ended, text: &[u8], said: &[u8]) {
 #[test]
 fn a_sample_that_is_none_is_refused_at_its_offset(rt: HostRuntime) -> Result<(), NoMemory> {
     for change in CHANGES {
-        let mut bytes = Vec::new(rt.alloc());
-        bytes.extend_from_slice(&CALL)?;
+        let mut bytes = bytes_of(rt.alloc(), &CALL)?;
         for (i, byte) in change.bytes.iter().enumerate() {
             let at = change.at.saturating_add(i);
             assert!(rt; at < bytes.len(), "a byte of the sample");
@@ -230,8 +242,7 @@ fn a_sample_that_is_none_is_refused_at_its_offset(rt: HostRuntime) -> Result<(),
 
 #[test]
 fn samples_before_the_one_that_is_refused_are_shown(rt: HostRuntime) -> Result<(), NoMemory> {
-    let mut bytes = Vec::new(rt.alloc());
-    bytes.extend_from_slice(&CALL)?;
+    let mut bytes = bytes_of(rt.alloc(), &CALL)?;
     bytes.extend_from_slice(b"\x09\0\0\0")?;
     let ended = run(rt.alloc(), LAYOUT, bytes.as_slice(), &[])?;
     refuses(
@@ -258,8 +269,9 @@ const OTHER_WORDS: [&[&str]; 10] = [
 
 #[test]
 fn other_layouts_are_usage(rt: HostRuntime) -> Result<(), NoMemory> {
+    let bytes = bytes_of(rt.alloc(), &CALL)?;
     for words in OTHER_WORDS {
-        let ended = run(rt.alloc(), words, &CALL, &[])?;
+        let ended = run(rt.alloc(), words, &bytes, &[])?;
         assert_eq!(rt; ended.outcome.fault, Some(Fault::Usage));
         assert_eq!(rt; ended.sink.bytes().len(), 0);
     }
@@ -270,8 +282,9 @@ fn other_layouts_are_usage(rt: HostRuntime) -> Result<(), NoMemory> {
 fn a_read_that_fails_shows_the_samples_before_it(rt: HostRuntime) -> Result<(), NoMemory> {
     // 104 bytes in pieces of 8: the eighth read ends the first sample, and the fourteenth looks for
     // the end.
+    let bytes = bytes_of(rt.alloc(), &TWO)?;
     for k in 0..14u64 {
-        let mut source = MemSource::new(rt.alloc(), &TWO, &[8], &[k])?;
+        let mut source = MemSource::new(rt.alloc(), &bytes, &[8], &[k])?;
         let sink = MemSink::new(rt.alloc(), 4096, &[], &[])?;
         let notes = MemSink::new(rt.alloc(), 128, &[], &[])?;
         let ended = call(rt.alloc(), &["show", "883"], &mut source, sink, notes)?;
@@ -289,8 +302,9 @@ fn a_read_that_fails_shows_the_samples_before_it(rt: HostRuntime) -> Result<(), 
 #[test]
 fn a_write_that_fails_leaves_a_proper_prefix(rt: HostRuntime) -> Result<(), NoMemory> {
     // 131 bytes in pieces of 10
+    let bytes = bytes_of(rt.alloc(), &CALL)?;
     for k in 0..14u64 {
-        let mut source = MemSource::new(rt.alloc(), &CALL, &[], &[])?;
+        let mut source = MemSource::new(rt.alloc(), &bytes, &[], &[])?;
         let sink = MemSink::new(rt.alloc(), 4096, &[10], &[k])?;
         let notes = MemSink::new(rt.alloc(), 128, &[], &[])?;
         let ended = call(rt.alloc(), LAYOUT, &mut source, sink, notes)?;
