@@ -6,7 +6,7 @@ pub use broken::{BROKEN, BrokenSample};
 pub use samples::{
     Branch, CALL_BYTES, SampleWords, append_sample, bytes_of_samples, bytes_of_words,
 };
-pub use schedules::Schedule;
+pub use schedules::{Schedule, schedule_text};
 
 mod broken;
 pub mod images;

@@ -20,7 +20,7 @@ fn append_lines(text: &mut Vec<u8>, groups: &[(&str, u32)]) -> Result<(), AllocE
     Ok(())
 }
 
-/// Appends images as bytes, the lowest of each word first.
+// Appends images as bytes, the lowest of each word first.
 fn append_images(text: &mut Vec<u8>, images: &[&[u32]]) -> Result<(), AllocError> {
     for image in images {
         for word in *image {
@@ -30,15 +30,25 @@ fn append_images(text: &mut Vec<u8>, images: &[&[u32]]) -> Result<(), AllocError
     Ok(())
 }
 
+/// The text of a schedule of these lines up to `images`, these images and these commands up to `end`.
+pub fn schedule_text(
+    alloc: Global,
+    head: &[(&str, u32)],
+    images: &[&[u32]],
+    commands: &[(&str, u32)],
+) -> Result<Vec<u8>, AllocError> {
+    let mut text = Vec::new(alloc);
+    append_lines(&mut text, head)?;
+    text.extend_from_slice(b"images\n")?;
+    append_images(&mut text, images)?;
+    append_lines(&mut text, commands)?;
+    text.extend_from_slice(b"end\n")?;
+    Ok(text)
+}
+
 impl Schedule {
     /// The whole text, up to the line `end`.
     pub fn text(&self, alloc: Global) -> Result<Vec<u8>, AllocError> {
-        let mut text = Vec::new(alloc);
-        append_lines(&mut text, self.head)?;
-        text.extend_from_slice(b"images\n")?;
-        append_images(&mut text, self.images)?;
-        append_lines(&mut text, self.commands)?;
-        text.extend_from_slice(b"end\n")?;
-        Ok(text)
+        schedule_text(alloc, self.head, self.images, self.commands)
     }
 }

@@ -1,13 +1,16 @@
-//! Tests of the top call and of the engine over the ends in memory: schedules with the samples that they must give.
+//! Tests of the top call and of the engine over the ends in memory: schedules with the samples that
+//! they must give.
 #![tactic(auto)]
 
 #[cfg(test)]
+mod call;
+#[cfg(test)]
+mod calls;
+#[cfg(test)]
+mod case;
+#[cfg(test)]
 mod engine;
 #[cfg(test)]
-mod faults;
-#[cfg(test)]
-mod input;
-#[cfg(test)]
-mod samples;
+mod moves;
 #[cfg(test)]
 mod show;

@@ -1,14 +1,12 @@
 // Samples shown as text.
-use crate::input::{Ended, call, run};
-use ctr_port::{MemSink, MemSource, NoMemory};
-use ctrsim_cli::{Fault, Outcome};
+use crate::call::{
+    CANNOT_READ, CANNOT_READ_SAID, CANNOT_WRITE, CANNOT_WRITE_SAID, DONE, Ended, USAGE, USAGE_SAID,
+    ends, reading, run, writing,
+};
+use ctr_port::NoMemory;
+use ctr_vectors::{BROKEN, BrokenSample, bytes_of_samples, bytes_of_words};
 use std::alloc::{AllocError, Global};
 use std::process::Abort;
-
-const DONE: Outcome = Outcome {
-    status: 0,
-    fault: None,
-};
 
 // The fields of a sample of the layout 803, as words of eight bytes.
 const CALL: [u64; 7] = [
@@ -56,6 +54,9 @@ pid 2 tid 2\n\
 cpu 0\n\
 branches 0\n";
 
+// The length of the first sample's text.
+const FIRST_OF_TWO: usize = 137;
+
 // A sample of every field, without branches, with the place of the youngest entry.
 const ALL: [u64; 12] = [
     0x0060_0005_0000_0009, // a sample of mode VU, 96 bytes
@@ -85,15 +86,6 @@ period 100\n\
 branches 0\n\
 hw_index 0xffffffffffffffff\n";
 
-// The bytes of such words, the lowest first.
-fn bytes_of(alloc: Global, words: &[u64]) -> Result<Vec<u8>, AllocError> {
-    let mut bytes = Vec::new(alloc);
-    for word in words {
-        bytes.extend_from_slice(&word.to_le_bytes())?;
-    }
-    Ok(bytes)
-}
-
 // A call showed this text and nothing else.
 fn shows(rt: &impl Abort, name: &str, ended: &Ended, text: &[u8]) {
     assert_eq!(rt; ended.outcome, DONE, "{name}");
@@ -104,10 +96,10 @@ fn shows(rt: &impl Abort, name: &str, ended: &Ended, text: &[u8]) {
 
 #[test]
 fn samples_are_shown_line_by_line(rt: HostRuntime) -> Result<(), NoMemory> {
-    let one = bytes_of(rt.alloc(), &CALL)?;
+    let one = bytes_of_words(rt.alloc(), &CALL)?;
     let ended = run(rt.alloc(), &["show", "803"], &one, &[])?;
     shows(&rt, "one call", &ended, CALL_TEXT);
-    let two = bytes_of(rt.alloc(), &TWO)?;
+    let two = bytes_of_words(rt.alloc(), &TWO)?;
     let ended = run(rt.alloc(), &["show", "883"], &two, &[5])?;
     shows(&rt, "two samples in pieces of 5", &ended, TWO_TEXT);
     let ended = run(rt.alloc(), &["show", "883"], &two, &[1])?;
@@ -117,7 +109,7 @@ fn samples_are_shown_line_by_line(rt: HostRuntime) -> Result<(), NoMemory> {
 
 #[test]
 fn every_field_has_its_line(rt: HostRuntime) -> Result<(), NoMemory> {
-    let all = bytes_of(rt.alloc(), &ALL)?;
+    let all = bytes_of_words(rt.alloc(), &ALL)?;
     for word in ["10bcf", "0000000000010BCF"] {
         let ended = run(rt.alloc(), &["show", word, "20000"], &all, &[])?;
         shows(&rt, "every field", &ended, ALL_TEXT);
@@ -127,94 +119,7 @@ fn every_field_has_its_line(rt: HostRuntime) -> Result<(), NoMemory> {
     Ok(())
 }
 
-// Some bytes of the sample of a call are changed, and it is cut to a length: what is said of it.
-#[derive(Clone, Copy)]
-struct Change {
-    words: &'static [&'static str],
-    at: usize,
-    bytes: &'static [u8],
-    len: usize,
-    said: &'static [u8],
-}
-
 const LAYOUT: &[&str] = &["show", "803"];
-
-const CHANGES: [Change; 10] = [
-    Change {
-        words: LAYOUT,
-        at: 6,
-        bytes: b"\x40",
-        len: 56,
-        said: b"ctrsim: sample at 0: wrong size\n",
-    },
-    // the size of two branches
-    Change {
-        words: LAYOUT,
-        at: 6,
-        bytes: b"\x50",
-        len: 56,
-        said: b"ctrsim: sample at 0: wrong size\n",
-    },
-    Change {
-        words: LAYOUT,
-        at: 24,
-        bytes: b"\x01\x01",
-        len: 56,
-        said: b"ctrsim: sample at 0: too many branches\n",
-    },
-    Change {
-        words: LAYOUT,
-        at: 24,
-        bytes: b"\x02",
-        len: 56,
-        said: b"ctrsim: sample at 0: wrong size\n",
-    },
-    // bit 33 of the flags
-    Change {
-        words: LAYOUT,
-        at: 52,
-        bytes: b"\x02",
-        len: 56,
-        said: b"ctrsim: sample at 0: reserved flags in branch 0\n",
-    },
-    Change {
-        words: LAYOUT,
-        at: 0,
-        bytes: b"",
-        len: 55,
-        said: b"ctrsim: sample at 0: cut in flags 0\n",
-    },
-    Change {
-        words: LAYOUT,
-        at: 0,
-        bytes: b"",
-        len: 7,
-        said: b"ctrsim: sample at 0: header cut\n",
-    },
-    Change {
-        words: LAYOUT,
-        at: 0,
-        bytes: b"\x01",
-        len: 56,
-        said: b"ctrsim: sample at 0: not a sample\n",
-    },
-    // with the place of the youngest entry, of which four bytes are there
-    Change {
-        words: &["show", "803", "20000"],
-        at: 6,
-        bytes: b"\x40",
-        len: 36,
-        said: b"ctrsim: sample at 0: cut in hw_index\n",
-    },
-    // the word of pid and tid is that of cpu
-    Change {
-        words: &["show", "881"],
-        at: 0,
-        bytes: b"",
-        len: 56,
-        said: b"ctrsim: sample at 0: reserved cpu bytes\n",
-    },
-];
 
 // A call refused a sample behind one that was shown, and said this of it.
 fn refuses(rt: &impl Abort, ended: &Ended, text: &[u8], said: &[u8]) {
@@ -224,25 +129,41 @@ fn refuses(rt: &impl Abort, ended: &Ended, text: &[u8], said: &[u8]) {
     assert!(rt; ended.harts.is_fresh(), "the harts were touched");
 }
 
+// What is said of a sample at the beginning of the input.
+fn said_of(alloc: Global, what: &str) -> Result<Vec<u8>, AllocError> {
+    let mut said = Vec::new(alloc);
+    for part in ["ctrsim: sample at 0: ", what, "\n"] {
+        said.extend_from_slice(part.as_bytes())?;
+    }
+    Ok(said)
+}
+
+fn is_refused(rt: &impl Abort, alloc: Global, broken: &BrokenSample) -> Result<(), NoMemory> {
+    let mut bytes = bytes_of_words(alloc, &CALL)?;
+    for (i, byte) in broken.bytes.iter().enumerate() {
+        let at = broken.at.saturating_add(i);
+        assert!(rt; at < bytes.len(), "a byte of the sample");
+        bytes[at] = *byte;
+    }
+    bytes.truncate(broken.len);
+    let said = said_of(alloc, broken.said)?;
+    let words = ["show", broken.layout, broken.branch];
+    let ended = run(alloc, &words, bytes.as_slice(), &[3])?;
+    refuses(rt, &ended, b"", &said);
+    Ok(())
+}
+
 #[test]
 fn a_sample_that_is_none_is_refused_at_its_offset(rt: HostRuntime) -> Result<(), NoMemory> {
-    for change in CHANGES {
-        let mut bytes = bytes_of(rt.alloc(), &CALL)?;
-        for (i, byte) in change.bytes.iter().enumerate() {
-            let at = change.at.saturating_add(i);
-            assert!(rt; at < bytes.len(), "a byte of the sample");
-            bytes[at] = *byte;
-        }
-        bytes.truncate(change.len);
-        let ended = run(rt.alloc(), change.words, bytes.as_slice(), &[3])?;
-        refuses(&rt, &ended, b"", change.said);
+    for broken in &BROKEN {
+        is_refused(&rt, rt.alloc(), broken)?;
     }
     Ok(())
 }
 
 #[test]
 fn samples_before_the_one_that_is_refused_are_shown(rt: HostRuntime) -> Result<(), NoMemory> {
-    let mut bytes = bytes_of(rt.alloc(), &CALL)?;
+    let mut bytes = bytes_of_words(rt.alloc(), &CALL)?;
     bytes.extend_from_slice(b"\x09\0\0\0")?;
     let ended = run(rt.alloc(), LAYOUT, bytes.as_slice(), &[])?;
     refuses(
@@ -251,6 +172,37 @@ fn samples_before_the_one_that_is_refused_are_shown(rt: HostRuntime) -> Result<(
         CALL_TEXT,
         b"ctrsim: sample at 56: header cut\n",
     );
+    Ok(())
+}
+
+// Of two tasks, in the layout 883.
+const SUMMED_TEXT: &[u8] = b"sample 0 misc 3 size 160\n\
+ip 0x0000000080000000\n\
+pid 1 tid 1\n\
+cpu 1\n\
+branches 5\n\
+0x0000000080000020 0x0000000080000000 call 0x0000000000400000\n\
+0x0000000080000018 0x0000000080000020 cond 0x0000000000100001\n\
+0x0000000080000020 0x0000000080000000 call 0x0000000000400000\n\
+0x0000000080000018 0x0000000080000020 cond 0x0000000000100001\n\
+0x000000008000001c 0x0000000080000000 uncond 0x0000000000200000\n\
+sample 160 misc 3 size 160\n\
+ip 0x0000000080000000\n\
+pid 2 tid 2\n\
+cpu 0\n\
+branches 5\n\
+0x0000000080000020 0x0000000080000000 call 0x0000000000400000\n\
+0x0000000080000018 0x0000000080000020 cond 0x0000000000100001\n\
+0x0000000080000020 0x0000000080000000 call 0x0000000000400000\n\
+0x0000000080000018 0x0000000080000020 cond 0x0000000000100001\n\
+0x000000008000001c 0x0000000080000000 uncond 0x0000000000200000\n";
+
+#[test]
+fn what_a_run_of_two_tasks_wrote_is_shown(rt: HostRuntime) -> Result<(), NoMemory> {
+    let bytes = bytes_of_samples(rt.alloc(), crate::moves::SWAPPED)?;
+    assert_eq!(rt; bytes.len(), 320);
+    let ended = run(rt.alloc(), &["show", "883"], &bytes, &[5])?;
+    shows(&rt, "two tasks", &ended, SUMMED_TEXT);
     Ok(())
 }
 
@@ -269,49 +221,55 @@ const OTHER_WORDS: [&[&str]; 10] = [
 
 #[test]
 fn other_layouts_are_usage(rt: HostRuntime) -> Result<(), NoMemory> {
-    let bytes = bytes_of(rt.alloc(), &CALL)?;
+    let bytes = bytes_of_words(rt.alloc(), &CALL)?;
     for words in OTHER_WORDS {
         let ended = run(rt.alloc(), words, &bytes, &[])?;
-        assert_eq!(rt; ended.outcome.fault, Some(Fault::Usage));
-        assert_eq!(rt; ended.sink.bytes().len(), 0);
+        ends(&rt, "another layout", &ended, USAGE, USAGE_SAID, b"");
     }
     Ok(())
 }
 
 #[test]
 fn a_read_that_fails_shows_the_samples_before_it(rt: HostRuntime) -> Result<(), NoMemory> {
-    // 104 bytes in pieces of 8: the eighth read ends the first sample, and the fourteenth looks for
-    // the end.
-    let bytes = bytes_of(rt.alloc(), &TWO)?;
+    // 104 bytes in pieces of 8: the eighth read ends the first sample, the thirteenth the second,
+    // and the fourteenth looks for the end.
+    let bytes = bytes_of_words(rt.alloc(), &TWO)?;
     for k in 0..14u64 {
-        let mut source = MemSource::new(rt.alloc(), &bytes, &[8], &[k])?;
-        let sink = MemSink::new(rt.alloc(), 4096, &[], &[])?;
-        let notes = MemSink::new(rt.alloc(), 128, &[], &[])?;
-        let ended = call(rt.alloc(), &["show", "883"], &mut source, sink, notes)?;
-        assert_eq!(rt; ended.outcome.fault, Some(Fault::ReadFault), "read {k}");
-        assert_eq!(rt;
-            ended.notes.bytes(),
-            b"ctrsim: cannot read\n".as_slice(),
-            "read {k}"
-        );
-        assert!(rt; TWO_TEXT.starts_with(ended.sink.bytes()), "read {k}");
+        let ended = reading(rt.alloc(), &["show", "883"], &bytes, &[8], &[k])?;
+        let shown = match k {
+            0..=7 => 0,
+            8..=12 => FIRST_OF_TWO,
+            _ => TWO_TEXT.len(),
+        };
+        let text = TWO_TEXT.get(..shown).unwrap_or(b"");
+        ends(&rt, "a read", &ended, CANNOT_READ, CANNOT_READ_SAID, text);
+        assert!(rt; ended.harts.is_fresh(), "read {k}");
     }
+    let ended = reading(rt.alloc(), &["show", "883"], &bytes, &[8], &[14])?;
+    shows(&rt, "no further read", &ended, TWO_TEXT);
     Ok(())
 }
 
 #[test]
 fn a_write_that_fails_leaves_a_proper_prefix(rt: HostRuntime) -> Result<(), NoMemory> {
-    // 131 bytes in pieces of 10
-    let bytes = bytes_of(rt.alloc(), &CALL)?;
+    // in pieces of 10, of which the last is shorter
+    let bytes = bytes_of_words(rt.alloc(), &CALL)?;
+    let mut at = 0usize;
     for k in 0..14u64 {
-        let mut source = MemSource::new(rt.alloc(), &bytes, &[], &[])?;
-        let sink = MemSink::new(rt.alloc(), 4096, &[10], &[k])?;
-        let notes = MemSink::new(rt.alloc(), 128, &[], &[])?;
-        let ended = call(rt.alloc(), LAYOUT, &mut source, sink, notes)?;
-        assert_eq!(rt; ended.outcome.fault, Some(Fault::WriteFault), "write {k}");
-        let written = ended.sink.bytes();
-        assert_eq!(rt; written.len() as u64, 10 * k, "write {k}");
-        assert!(rt; CALL_TEXT.starts_with(written), "write {k}");
+        let ended = writing(rt.alloc(), LAYOUT, &bytes, &[10], &[k])?;
+        let text = CALL_TEXT.get(..at).unwrap_or(b"");
+        ends(
+            &rt,
+            "a write",
+            &ended,
+            CANNOT_WRITE,
+            CANNOT_WRITE_SAID,
+            text,
+        );
+        assert!(rt; ended.harts.is_fresh(), "write {k}");
+        at = at.saturating_add(10);
     }
+    let ended = writing(rt.alloc(), LAYOUT, &bytes, &[10], &[14])?;
+    shows(&rt, "no further write", &ended, CALL_TEXT);
     Ok(())
 }
