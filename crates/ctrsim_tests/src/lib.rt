@@ -9,8 +9,22 @@ mod calls;
 #[cfg(test)]
 mod case;
 #[cfg(test)]
+mod demo;
+#[cfg(test)]
 mod engine;
+#[cfg(test)]
+mod guests;
+#[cfg(test)]
+mod hardware_index;
+#[cfg(test)]
+mod mispredicted;
 #[cfg(test)]
 mod moves;
 #[cfg(test)]
+mod own_records;
+#[cfg(test)]
+mod periods;
+#[cfg(test)]
 mod show;
+#[cfg(test)]
+mod traps;
