@@ -1,5 +1,5 @@
 // Calls, jumps and returns of one task.
-use crate::call::{DONE, ends, leaves, run};
+use crate::call::{DONE, Ended, ends, leaves, run};
 use crate::case::{ALONE, Alone, check_alones, register, text_of};
 use ctr_port::NoMemory;
 use ctr_vectors::images::*;
@@ -102,15 +102,19 @@ fn calls_jumps_and_returns_are_recorded(rt: HostRuntime) -> Result<(), NoMemory>
     check_alones(&rt, rt.alloc(), &CASES)
 }
 
+fn is_one_call(rt: &impl Abort, ended: &Ended) {
+    ends(rt, "one call", ended, DONE, b"", &CALL_BYTES);
+    leaves(rt, "one call", ended, &[(1, 137, Some(0))]);
+}
+
 #[test]
 fn one_call_is_these_bytes(rt: HostRuntime) -> Result<(), NoMemory> {
     let text = text_of(rt.alloc(), &ALONE)?;
     assert_eq!(rt; text.len(), 85);
-    for pieces in [[85], [1], [7], [40]] {
-        let ended = run(rt.alloc(), &["run"], &text, &pieces)?;
-        ends(&rt, "one call", &ended, DONE, b"", &CALL_BYTES);
-        leaves(&rt, "one call", &ended, &[(1, 137, Some(0))]);
-    }
+    is_one_call(&rt, &run(rt.alloc(), &["run"], &text, &[])?);
+    is_one_call(&rt, &run(rt.alloc(), &["run"], &text, &[1])?);
+    is_one_call(&rt, &run(rt.alloc(), &["run"], &text, &[7, 2])?);
+    is_one_call(&rt, &run(rt.alloc(), &["run"], &text, &[40])?);
     Ok(())
 }
 

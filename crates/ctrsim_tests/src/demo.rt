@@ -49,8 +49,8 @@ fn a_write_that_fails_leaves_a_proper_prefix_and_the_harts_of_all_turns(
     rt: HostRuntime,
 ) -> Result<(), NoMemory> {
     let mut at = 0usize;
-    for k in 0..36u64 {
-        let ended = writing(rt.alloc(), &["demo", "8"], b"", &[1], &[k])?;
+    for k in 0..4u64 {
+        let ended = writing(rt.alloc(), &["demo", "8"], b"", &[10], &[k])?;
         let part = EIGHT.get(..at).unwrap_or(b"");
         ends(
             &rt,
@@ -61,9 +61,9 @@ fn a_write_that_fails_leaves_a_proper_prefix_and_the_harts_of_all_turns(
             part,
         );
         leaves(&rt, "a write", &ended, AFTER_EIGHT);
-        at = at.saturating_add(1);
+        at = at.saturating_add(10);
     }
-    let ended = writing(rt.alloc(), &["demo", "8"], b"", &[1], &[36])?;
+    let ended = writing(rt.alloc(), &["demo", "8"], b"", &[10], &[4])?;
     ends(&rt, "no further write", &ended, DONE, b"", EIGHT);
     Ok(())
 }

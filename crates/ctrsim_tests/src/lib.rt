@@ -13,9 +13,13 @@ mod demo;
 #[cfg(test)]
 mod engine;
 #[cfg(test)]
+mod failing;
+#[cfg(test)]
 mod guests;
 #[cfg(test)]
 mod hardware_index;
+#[cfg(test)]
+mod lines;
 #[cfg(test)]
 mod mispredicted;
 #[cfg(test)]
@@ -28,3 +32,5 @@ mod periods;
 mod show;
 #[cfg(test)]
 mod traps;
+#[cfg(test)]
+mod words;
