@@ -21,6 +21,8 @@ mod hardware_index;
 #[cfg(test)]
 mod lines;
 #[cfg(test)]
+mod long;
+#[cfg(test)]
 mod mispredicted;
 #[cfg(test)]
 mod moves;
