@@ -7,14 +7,17 @@ use ctr_port::{MemSink, MemSource, NoMemory};
 
 const ONE: &[u8] = b"samples 1 bytes 56 branches 1\n";
 
-const EIGHT: &[u8] = b"samples 37 bytes 13808 branches 526\n";
+/// What is written after eight turns.
+pub const EIGHT: &[u8] = b"samples 37 bytes 13808 branches 526\n";
 
 const AFTER_ONE: &[Held] = &[(1, 137, Some(0))];
 
-// Hart h has task h, and then task h + 4. With d entries a restore takes 4 * d + 6 accesses, a save
-// 4 * d + 5 and a sample 4 * d + 3. The tasks make 1, 5, 11, 19, 29, 41, 55 and 71 steps, a sample
-// at each seventh and one behind the last; they have 16, 32, 64, 128, 256, 16, 32 and 64 entries.
-const AFTER_EIGHT: &[Held] = &[
+/// What the harts hold after eight turns.
+///
+/// Hart h has task h, and then task h + 4. With d entries a restore takes 4 * d + 6 accesses, a save
+/// 4 * d + 5 and a sample 4 * d + 3. The tasks make 1, 5, 11, 19, 29, 41, 55 and 71 steps, a sample
+/// at each seventh and one behind the last; they have 16, 32, 64, 128, 256, 16, 32 and 64 entries.
+pub const AFTER_EIGHT: &[Held] = &[
     (30, 6_371, Some(4)), // 70 + 67 + 69, and 1030 + 5 * 1027
     (46, 870, Some(5)), // 134 + 131 + 133, and 70 + 6 * 67
     (66, 2_223, Some(6)), // 262 + 2 * 259 + 261, and 134 + 8 * 131

@@ -23,6 +23,8 @@ mod lines;
 #[cfg(test)]
 mod long;
 #[cfg(test)]
+mod memory;
+#[cfg(test)]
 mod mispredicted;
 #[cfg(test)]
 mod moves;

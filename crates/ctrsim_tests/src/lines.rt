@@ -570,13 +570,3 @@ fn there_are_1048576_commands_at_most(rt: HostRuntime) -> Result<(), NoMemory> {
     leaves(&rt, "a command more", &ended, &[(0, 70, Some(0))]);
     Ok(())
 }
-
-#[test]
-fn as_many_commands_as_there_may_be_are_performed(rt: HostRuntime) -> Result<(), NoMemory> {
-    let alloc = rt.alloc();
-    let text = many(alloc, FIRST, b"run 0 0 0\n", 1_048_576, b"end\n")?;
-    let ended = run(alloc, &["run"], &text, &[])?;
-    ends(&rt, "as many commands", &ended, DONE, b"", b"");
-    leaves(&rt, "as many commands", &ended, &[(0, 70, Some(0))]);
-    Ok(())
-}

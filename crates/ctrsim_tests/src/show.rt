@@ -114,8 +114,10 @@ fn every_field_has_its_line(rt: HostRuntime) -> Result<(), NoMemory> {
         let ended = run(rt.alloc(), &["show", word, "20000"], &all, &[])?;
         shows(&rt, "every field", &ended, ALL_TEXT);
     }
-    let ended = run(rt.alloc(), &["show", "803", "0"], &[], &[])?;
-    shows(&rt, "no sample", &ended, b"");
+    for words in [LAYOUT, &["show", "803", "0"]] {
+        let ended = run(rt.alloc(), words, &[], &[])?;
+        shows(&rt, "no sample", &ended, b"");
+    }
     Ok(())
 }
 
