@@ -1,5 +1,7 @@
 //! The bytes of samples.
 
+ghost use Rattle.std.specs.Prelude.{◌≡◌, ◌+◌, ◌*◌, length, IfOk, OnOk};
+
 use std::alloc::{AllocError, Global};
 
 /// A branch: from, to, flags.
@@ -26,7 +28,10 @@ pub const CALL_BYTES: [u8; 56] = [
     0, 0, 0x40, 0, 0, 0, 0, 0, // flags: a call
 ];
 
-fn append_words(out: &mut Vec<u8>, words: &[u64]) -> Result<(), AllocError> {
+// Appends words, each as eight bytes, the lowest first.
+fn append_words(out: &mut Vec<u8>, words: &[u64]) -> Result<(), AllocError>
+    ensures { OnOk result (length out.new.items ≡ length out.old.items + 8 * length words.now) }
+{
     for word in words {
         out.extend_from_slice(&word.to_le_bytes())?;
     }
@@ -40,7 +45,10 @@ pub fn append_sample(
     fields: &[u64],
     index: &[u64],
     branches: &[Branch],
-) -> Result<(), AllocError> {
+) -> Result<(), AllocError>
+    ensures { OnOk result (length out.new.items ≡ length out.old.items
+        + (16 + 8 * (length fields.now + length index.now) + 24 * length branches.now)) }
+{
     let count = branches.len() as u64;
     let words = (fields.len() as u64).wrapping_add(index.len() as u64);
     let size = count
@@ -73,7 +81,9 @@ pub fn bytes_of_samples(alloc: Global, samples: &[SampleWords]) -> Result<Vec<u8
 }
 
 /// The bytes of words, the lowest of each first.
-pub fn bytes_of_words(alloc: Global, words: &[u64]) -> Result<Vec<u8>, AllocError> {
+pub fn bytes_of_words(alloc: Global, words: &[u64]) -> Result<Vec<u8>, AllocError>
+    ensures { IfOk result (λ out. length out.items ≡ 8 * length words.now) }
+{
     let mut out = Vec::new(alloc);
     append_words(&mut out, words)?;
     Ok(out)

@@ -152,9 +152,9 @@ run_read h t s p q r =
     let c = short s r in
     let few : nat_le s 1000000000 ≡ true = grind (arith, r) in
     let split : words (run_row h t s) ≡ codes "run" ∷ (dec h ∷ (dec t ∷ (dec s ∷ []))) =
-      first_word (codes "run") (dec h ++ (32 ∷ (dec t ++ (32 ∷ dec s)))) refl
-      ∙ ap (λ (ws : List (List ℕ)). codes "run" ∷ ws) (first_word (dec h) (dec t ++ (32 ∷ dec s)) a.solid
-      ∙ ap (λ (ws : List (List ℕ)). dec h ∷ ws) (first_word (dec t) (dec s) b.solid ∙ ap (λ (ws : List (List ℕ)). dec t ∷ ws) (last_word (dec s) c.solid))) in
+    first_word (codes "run") (dec h ++ (32 ∷ (dec t ++ (32 ∷ dec s)))) refl
+    ∙ ap (λ (ws : List (List ℕ)). codes "run" ∷ ws) (first_word (dec h) (dec t ++ (32 ∷ dec s)) a.solid
+    ∙ ap (λ (ws : List (List ℕ)). dec h ∷ ws) (first_word (dec t) (dec s) b.solid ∙ ap (λ (ws : List (List ℕ)). dec t ∷ ws) (last_word (dec s) c.solid))) in
     run_says (run_row h t s) (dec h) (dec t) (dec s) h t s split a.read b.read c.read few
     ∙ ap (λ (k : ℕ). Ok (Run k (kept t) s)) (kept_is h p) ∙ ap (λ (k : ℕ). Ok (Run h k s)) (kept_is t q)
 
@@ -175,7 +175,7 @@ run_line h t s rest p q r =
     let last = 32 ∷ dec s in
     let two = dec t ++ last in
     let clear : from 32 (run_row h t s) ≡ true =
-      from_append 32 (codes "run ") (dec h ++ (32 ∷ two)) refl (from_append 32 (dec h) (32 ∷ two) a.clear (from_append 32 (dec t) last b.clear c.clear)) in
+    from_append 32 (codes "run ") (dec h ++ (32 ∷ two)) refl (from_append 32 (dec h) (32 ∷ two) a.clear (from_append 32 (dec t) last b.clear c.clear)) in
     line_of 256 (run_row h t s) rest
     (omega (arith, length-append (dec h) (32 ∷ two), length-append (dec t) last, a.few, b.few, c.few)) clear
 

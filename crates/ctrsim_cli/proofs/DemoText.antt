@@ -54,12 +54,12 @@ turn_read i k cs m rest few given =
     let sample = sample_row t in
     let behind = line sample ++ rest in
     let two : turn_text i ++ rest ≡ run ++ 10 ∷ behind =
-      append_assoc (line run) (line sample) rest ∙ append_assoc run (10 ∷ []) behind in
+    append_assoc (line run) (line sample) rest ∙ append_assoc run (10 ∷ []) behind in
     let one : behind ≡ sample ++ 10 ∷ rest = append_assoc sample (10 ∷ []) rest in
     let fk : nat_lt k 1048576 ≡ true = grind (arith, few) in
     let fs : nat_lt (suc k) 1048576 ≡ true = grind (arith, few) in
     let first = reads_more 12 k cs (run_of_turn i) m (turn_text i ++ rest) behind given
-      (command_there (12 + (k + 1)) k run (turn_text i ++ rest) behind (run_of_turn i) (ap line_at two ∙ run_line h t s behind ph pt ps) (run_read h t s ph pt ps) refl fk) in
+    (command_there (12 + (k + 1)) k run (turn_text i ++ rest) behind (run_of_turn i) (ap line_at two ∙ run_line h t s behind ph pt ps) (run_read h t s ph pt ps) refl fk) in
     reads_more 12 (suc k) (cs ++ run_of_turn i ∷ []) (sample_of_turn i) m behind rest first
     (command_there (12 + (suc k + 1)) (suc k) sample behind rest (sample_of_turn i) (ap line_at one ∙ sample_line t rest pt) (sample_read t pt) refl fs)
 

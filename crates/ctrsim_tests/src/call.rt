@@ -51,7 +51,7 @@ pub const CANNOT_WRITE: Outcome = Outcome {
 pub const CANNOT_WRITE_SAID: &[u8] = b"ctrsim: cannot write\n";
 
 /// A line that is refused.
-pub fn refused(line: u32, reason: Reason) -> Outcome {
+pub(crate) fn refused(line: u32, reason: Reason) -> Outcome {
     Outcome {
         status: 5,
         fault: Some(Fault::Line(LineFault { line, reason })),
@@ -59,7 +59,7 @@ pub fn refused(line: u32, reason: Reason) -> Outcome {
 }
 
 /// The call with these words over these ends and on fresh harts. What it says is kept in `notes`.
-pub fn call(
+pub(crate) fn call(
     alloc: Global,
     words: &[&str],
     source: &mut MemSource,
@@ -83,7 +83,7 @@ pub fn call(
 }
 
 /// The same on this input, which comes in pieces and fails at these calls, into ample room.
-pub fn reading(
+pub(crate) fn reading(
     alloc: Global,
     words: &[&str],
     input: &[u8],
@@ -99,14 +99,19 @@ pub fn reading(
 }
 
 /// The same on an input that doesn't fail.
-pub fn run(alloc: Global, words: &[&str], input: &[u8], pieces: &[usize]) -> Result<Ended, NoMemory>
+pub(crate) fn run(
+    alloc: Global,
+    words: &[&str],
+    input: &[u8],
+    pieces: &[usize],
+) -> Result<Ended, NoMemory>
     requires { All (λ p. 0 < p) pieces.now }
 {
     reading(alloc, words, input, pieces, &[])
 }
 
 /// The same into a sink that takes pieces of these lengths and fails at these calls.
-pub fn writing(
+pub(crate) fn writing(
     alloc: Global,
     words: &[&str],
     input: &[u8],
@@ -122,7 +127,7 @@ pub fn writing(
 }
 
 /// The call ended so, said this and wrote this.
-pub fn ends(
+pub(crate) fn ends(
     rt: &impl Abort,
     name: &str,
     ended: &Ended,
@@ -136,7 +141,7 @@ pub fn ends(
 }
 
 /// What a hart holds.
-pub fn held(harts: &Harts, h: usize) -> Held
+pub(crate) fn held(harts: &Harts, h: usize) -> Held
     requires { h < 16 }
 {
     let hart = harts.hart(h);
@@ -144,7 +149,7 @@ pub fn held(harts: &Harts, h: usize) -> Held
 }
 
 /// The harts hold this, and those behind have done nothing.
-pub fn leaves(rt: &impl Abort, name: &str, ended: &Ended, harts: &[Held]) {
+pub(crate) fn leaves(rt: &impl Abort, name: &str, ended: &Ended, harts: &[Held]) {
     for h in 0..16 {
         let want = harts.get(h).copied().unwrap_or((0, 0, None));
         assert_eq!(rt; held(&ended.harts, h), want, "{name}: hart {h}");

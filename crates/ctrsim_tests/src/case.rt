@@ -20,7 +20,7 @@ pub struct Case {
 }
 
 /// Runs a schedule, and compares all that it left.
-pub fn check(rt: &impl Abort, alloc: Global, case: &Case) -> Result<(), NoMemory> {
+pub(crate) fn check(rt: &impl Abort, alloc: Global, case: &Case) -> Result<(), NoMemory> {
     let text = case.schedule.text(alloc)?;
     let want = bytes_of_samples(alloc, case.samples)?;
     let ended = run(alloc, &["run"], &text, &[])?;
@@ -33,7 +33,7 @@ pub fn check(rt: &impl Abort, alloc: Global, case: &Case) -> Result<(), NoMemory
     Ok(())
 }
 
-pub fn check_all(rt: &impl Abort, alloc: Global, cases: &[Case]) -> Result<(), NoMemory> {
+pub(crate) fn check_all(rt: &impl Abort, alloc: Global, cases: &[Case]) -> Result<(), NoMemory> {
     for case in cases {
         check(rt, alloc, case)?;
     }
@@ -76,7 +76,7 @@ pub const ALONE: Alone = Alone {
 };
 
 /// The text of its schedule.
-pub fn text_of(alloc: Global, case: &Alone) -> Result<Vec<u8>, NoMemory> {
+pub(crate) fn text_of(alloc: Global, case: &Alone) -> Result<Vec<u8>, NoMemory> {
     let text = schedule_text(
         alloc,
         &[
@@ -91,13 +91,13 @@ pub fn text_of(alloc: Global, case: &Alone) -> Result<Vec<u8>, NoMemory> {
 }
 
 // What a register of hart 0 holds.
-pub fn register(rt: &impl Abort, ended: &mut Ended, register: PortReg) -> u64 {
+pub(crate) fn register(rt: &impl Abort, ended: &mut Ended, register: PortReg) -> u64 {
     let hart = ended.harts.hart_mut(0);
     assert!(rt; hart.accesses() < 1 << 40, "too many accesses");
     hart.get(register)
 }
 
-pub fn check_alone(rt: &impl Abort, alloc: Global, case: &Alone) -> Result<(), NoMemory> {
+pub(crate) fn check_alone(rt: &impl Abort, alloc: Global, case: &Alone) -> Result<(), NoMemory> {
     let text = text_of(alloc, case)?;
     let mut want = Vec::new(alloc);
     append_sample(
@@ -120,7 +120,11 @@ pub fn check_alone(rt: &impl Abort, alloc: Global, case: &Alone) -> Result<(), N
     Ok(())
 }
 
-pub fn check_alones(rt: &impl Abort, alloc: Global, cases: &[Alone]) -> Result<(), NoMemory> {
+pub(crate) fn check_alones(
+    rt: &impl Abort,
+    alloc: Global,
+    cases: &[Alone],
+) -> Result<(), NoMemory> {
     for case in cases {
         check_alone(rt, alloc, case)?;
     }
