@@ -1,8 +1,8 @@
 #!/usr/bin/env python3
-"""Million steps a second and host instructions a step of the engine's `run`, beside a bare loop of `Hart::step` without interrupts
-and beside the built program, which makes the same steps without an engine; what a sample costs, where each thousandth step is
-followed by one; what a move costs; the stack; and peak memory. The program around the engine and the bare loop are made and
-proved in a temporary folder.
+"""Million steps a second and host instructions a step of the engine's `run`, beside a bare loop of `Hart::step` without
+interrupts and beside the built program, which performs the same schedule by the engine; what a sample costs, where each
+thousandth step is followed by one; what a move costs; the stack; and peak memory. The program around the engine and the bare
+loop are made and proved in a temporary folder.
 
     bench/engine.py [STEPS]     (100000000 where none are given)
 """
