@@ -93,7 +93,7 @@ pub(crate) fn text_of(alloc: Global, case: &Alone) -> Result<Vec<u8>, NoMemory> 
 // What a register of hart 0 holds.
 pub(crate) fn register(rt: &impl Abort, ended: &mut Ended, register: PortReg) -> u64 {
     let hart = ended.harts.hart_mut(0);
-    assert!(rt; hart.accesses() < 1 << 40, "too many accesses");
+    assert!(rt; hart.accesses() < 4096, "too many accesses");
     hart.get(register)
 }
 
