@@ -1,10 +1,9 @@
 // Calls, jumps and returns of one task.
 use crate::call::{DONE, Ended, ends, leaves, run};
-use crate::case::{ALONE, Alone, check_alones, register, text_of};
+use crate::case::{ALONE, Alone, check_alones, status_of, text_of};
 use ctr_port::NoMemory;
 use ctr_vectors::images::*;
 use ctr_vectors::{CALL_BYTES, append_sample};
-use indirect_regs::PortReg;
 use std::alloc::Global;
 use std::process::Abort;
 
@@ -166,11 +165,7 @@ fn jumps(
     let mut ended = run(alloc, &["run"], &text, &[])?;
     ends(rt, task, &ended, DONE, b"", &sample);
     leaves(rt, task, &ended, &[(17, accesses, Some(0))]);
-    assert_eq!(rt;
-        register(rt, &mut ended, PortReg::Status),
-        pointer,
-        "{task}"
-    );
+    assert_eq!(rt; status_of(rt, &mut ended), pointer, "{task}");
     Ok(())
 }
 

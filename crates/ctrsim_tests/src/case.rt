@@ -90,11 +90,18 @@ pub(crate) fn text_of(alloc: Global, case: &Alone) -> Result<Vec<u8>, NoMemory> 
     Ok(text)
 }
 
-// What a register of hart 0 holds.
-pub(crate) fn register(rt: &impl Abort, ended: &mut Ended, register: PortReg) -> u64 {
+// What sctrstatus of hart 0 holds.
+pub(crate) fn status_of(rt: &impl Abort, ended: &mut Ended) -> u64 {
     let hart = ended.harts.hart_mut(0);
     assert!(rt; hart.accesses() < 4096, "too many accesses");
-    hart.get(register)
+    hart.get(PortReg::Status)
+}
+
+// What sctrdepth of hart 0 holds.
+pub(crate) fn depth_of(rt: &impl Abort, ended: &mut Ended) -> u64 {
+    let hart = ended.harts.hart_mut(0);
+    assert!(rt; hart.accesses() < 4096, "too many accesses");
+    hart.get(PortReg::Depth)
 }
 
 pub(crate) fn check_alone(rt: &impl Abort, alloc: Global, case: &Alone) -> Result<(), NoMemory> {
@@ -115,7 +122,7 @@ pub(crate) fn check_alone(rt: &impl Abort, alloc: Global, case: &Alone) -> Resul
         &ended,
         &[(case.steps, case.accesses, Some(0))],
     );
-    let status = register(rt, &mut ended, PortReg::Status);
+    let status = status_of(rt, &mut ended);
     assert_eq!(rt; status, case.status, "{}: sctrstatus", case.name);
     Ok(())
 }

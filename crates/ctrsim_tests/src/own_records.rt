@@ -1,9 +1,8 @@
 // Tasks that write their own records.
 use crate::call::run;
-use crate::case::{ALONE, Alone, check_alones, register, text_of};
+use crate::case::{ALONE, Alone, check_alones, depth_of, text_of};
 use ctr_port::NoMemory;
 use ctr_vectors::images::*;
-use indirect_regs::PortReg;
 
 const WRITES: Alone = Alone {
     task: "task 28 28 0 4 0 0\n",
@@ -107,6 +106,6 @@ fn a_sample_shows_what_the_task_made_of_its_records(rt: HostRuntime) -> Result<(
 fn a_reserved_depth_leaves_the_depth_that_the_task_wrote(rt: HostRuntime) -> Result<(), NoMemory> {
     let text = text_of(rt.alloc(), &CHANGED_DEPTH)?;
     let mut ended = run(rt.alloc(), &["run"], &text, &[])?;
-    assert_eq!(rt; register(&rt, &mut ended, PortReg::Depth), 1);
+    assert_eq!(rt; depth_of(&rt, &mut ended), 1);
     Ok(())
 }
