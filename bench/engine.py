@@ -341,10 +341,10 @@ def make_programs(folder):
         for part in ("src", "specs", "proofs"):
             shutil.copytree(os.path.join(measure.TOP, "crates", name, part), os.path.join(folder, "crates", name, part))
     write(os.path.join(folder, "crates", "play_schedule", "src", "main.rt"), PROGRAM + MAIN.replace("ARGUMENTS", "rt.alloc(), &mut source"))
-    tests = os.path.join(measure.TOP, "crates", "ctrsim_tests")
+    tests = os.path.join(measure.TOP, "crates", "engine_tests")
     for path in ("specs/Lib.antt", "specs/Played.antt", "proofs/Lib.antt", "proofs/PlayedLemmas.antt"):
         with open(os.path.join(tests, path), encoding="utf-8") as f:
-            text = f.read().replace("Rattle.ctrsim_tests.", "Rattle.play_schedule.")
+            text = f.read().replace("Rattle.engine_tests.", "Rattle.play_schedule.")
         write(os.path.join(folder, "crates", "play_schedule", path), text)
     for path, text in PROOFS.items():
         write(os.path.join(folder, "crates", "play_schedule", "proofs", path), text)

@@ -1,5 +1,4 @@
-//! Tests of the top call and of the engine over the ends in memory: schedules with the samples that
-//! they must give.
+//! Tests of the top call over the ends in memory: schedules with the samples that they must give.
 #![tactic(auto)]
 
 #[cfg(test)]
@@ -10,8 +9,6 @@ mod calls;
 mod case;
 #[cfg(test)]
 mod demo;
-#[cfg(test)]
-mod engine;
 #[cfg(test)]
 mod failing;
 #[cfg(test)]

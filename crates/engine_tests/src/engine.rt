@@ -3,7 +3,7 @@ ghost use Rattle.std.specs.Prelude.{◌≡◌, ◌<◌, ◌≤◌, ◌+◌, ◌^
 ghost use Rattle.std.specs.Bool.{OnTrue};
 ghost use Rattle.sched_text.specs.Rows.{IsCommand};
 ghost use Rattle.replay_engine.specs.Start.{AreMemories};
-ghost use Rattle.ctrsim_tests.specs.Played.{IsPlayed};
+ghost use Rattle.engine_tests.specs.Played.{IsPlayed};
 
 use ctr_port::{MemSink, MemSource};
 use indirect_regs::{CtrPort, PortReg};

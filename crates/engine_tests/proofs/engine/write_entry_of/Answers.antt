@@ -1,6 +1,6 @@
 use Rattle.std.proofs.Common.{◌≡◌, ◌+◌, arith}
-use Rattle.ctrsim_tests.proofs.PlayedLemmas.{changed_hart, few_accesses}
-use Rattle.ctrsim_tests.proofs.engine.write_entry_of.Goals as goal
+use Rattle.engine_tests.proofs.PlayedLemmas.{changed_hart, few_accesses}
+use Rattle.engine_tests.proofs.engine.write_entry_of.Goals as goal
 
 pub write_entry-requires : goal.write_entry-requires
 write_entry-requires c =

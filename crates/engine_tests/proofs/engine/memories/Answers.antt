@@ -2,8 +2,8 @@ use Rattle.std.proofs.Common.{map, ap, ◌∙◌, get_or}
 use Rattle.std.proofs.lemmas.List.{take_more}
 use Rattle.sched_text.specs.declared.schedule.TaskLine.{TaskLine}
 use Rattle.replay_engine.specs.Start.{size_of}
-use Rattle.ctrsim_tests.proofs.PlayedLemmas.{one_memory_more}
-use Rattle.ctrsim_tests.proofs.engine.memories.Goals as goal
+use Rattle.engine_tests.proofs.PlayedLemmas.{one_memory_more}
+use Rattle.engine_tests.proofs.engine.memories.Goals as goal
 
 pub loop-task-preserved : goal.loop-task-preserved
 loop-task-preserved g c =

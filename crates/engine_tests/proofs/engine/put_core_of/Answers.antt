@@ -1,7 +1,7 @@
 use Rattle.std.proofs.Common.{ap, arith}
 use Rattle.rv_hart.specs.Hart.{HartState}
-use Rattle.ctrsim_tests.proofs.PlayedLemmas.{changed_hart}
-use Rattle.ctrsim_tests.proofs.engine.put_core_of.Goals as goal
+use Rattle.engine_tests.proofs.PlayedLemmas.{changed_hart}
+use Rattle.engine_tests.proofs.engine.put_core_of.Goals as goal
 
 pub returns : goal.returns
 returns c =

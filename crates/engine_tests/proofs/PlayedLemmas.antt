@@ -9,7 +9,7 @@ use Rattle.replay_engine.specs.Start.{size_of, mem_of}
 use Rattle.sched_text.specs.declared.schedule.TaskLine.{TaskLine}
 use Rattle.replay_engine.specs.Tasks.{TaskState, PresentState, AreInverse, PlacesAgree, state_at, state_by, present_state, places, residents, resident_of}
 use Rattle.replay_engine.specs.View.{view_of, accesses_of, steps_of}
-use Rattle.ctrsim_tests.specs.Played.{IsPlayed}
+use Rattle.engine_tests.specs.Played.{IsPlayed}
 
 pub has_room : (n : ℕ) (ts : List TaskState) (hs : List HartState) → n ≤ 1000000 → IsPlayed n ts hs → HasRoom (2 ^ 61) (view_of ts hs)
 has_room n ts hs few p = record {

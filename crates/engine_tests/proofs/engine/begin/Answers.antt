@@ -1,5 +1,5 @@
-use Rattle.ctrsim_tests.proofs.PlayedLemmas.{played_first}
-use Rattle.ctrsim_tests.proofs.engine.begin.Goals as goal
+use Rattle.engine_tests.proofs.PlayedLemmas.{played_first}
+use Rattle.engine_tests.proofs.engine.begin.Goals as goal
 
 pub invariant_of-result : goal.invariant_of-result
 invariant_of-result g c = record {

@@ -1,6 +1,6 @@
 use Rattle.std.proofs.Common.{◌*◌, ◌^◌}
-use Rattle.ctrsim_tests.proofs.PlayedLemmas.{played_after}
-use Rattle.ctrsim_tests.proofs.engine.perform.Goals as goal
+use Rattle.engine_tests.proofs.PlayedLemmas.{played_after}
+use Rattle.engine_tests.proofs.engine.perform.Goals as goal
 
 pub returns : goal.returns
 returns c =
