@@ -1,0 +1,1 @@
+"""What the tools share: how they end (`ends`), the layout of samples (`samples`) and of ELF files (`elf`)."""

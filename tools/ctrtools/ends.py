@@ -1,0 +1,95 @@
+"""How the tools begin and end: their arguments, their input and output, and one line with a status for each error.
+
+    0   all is done
+    1   the tool's own answer is no, as that two streams differ
+    2   the arguments are none that the tool takes
+    3   a file or standard input can't be read
+    4   the output can't be written
+    5   the ELF file is none that a task can be
+    6   the bytes from some offset on are no sample of the layout
+    7   the program can't be run, or it ended with another status than 0
+    8   the layout lacks a field that the tool needs
+"""
+import argparse
+import os
+import signal
+import sys
+
+NO, USAGE, READ, WRITE, ELF, SAMPLE, PROGRAM, LAYOUT = range(1, 9)
+
+TOP = os.path.dirname(os.path.dirname(os.path.dirname(os.path.realpath(__file__))))
+
+
+class End(Exception):
+    """The end of a tool by an error: its status, and the line that says it."""
+
+    def __init__(self, status, text):
+        super().__init__(text)
+        self.status = status
+
+
+class Arguments(argparse.ArgumentParser):
+    """Arguments whose refusal is one line, with the status for it."""
+
+    def __init__(self, doc, **words):
+        super().__init__(description=doc, formatter_class=argparse.RawDescriptionHelpFormatter, allow_abbrev=False,
+                         **words)
+
+    def error(self, message):
+        raise End(USAGE, "%s; --help tells more" % message)
+
+
+def note(text):
+    """A line of what was left out, or of how it went, beside the output."""
+    print("%s: %s" % (os.path.basename(sys.argv[0]), text), file=sys.stderr)
+
+
+def opened(path):
+    """A file to read bytes from; standard input where no path is given, or `-`."""
+    if path in (None, "-"):
+        return sys.stdin.buffer
+    try:
+        return open(path, "rb")
+    except OSError as error:
+        raise End(READ, "cannot read %s: %s" % (path, error.strerror)) from error
+
+
+def content(path):
+    """All bytes of a file, or of standard input."""
+    try:
+        with opened(path) as file:
+            return file.read()
+    except OSError as error:
+        raise End(READ, "cannot read %s: %s" % (path or "standard input", error.strerror)) from error
+
+
+def binary():
+    """The path of the program: CTRSIM of the environment, the one that was installed, or the one that was built."""
+    places = [os.environ.get("CTRSIM"), os.path.join(TOP, "bin", "ctrsim"), os.path.join(TOP, "..", "bin", "ctrsim"),
+              os.path.join(TOP, "crates", "ctrsim", "out", "ctrsim")]
+    for place in places:
+        if place and os.path.isfile(place):
+            return place
+    raise End(PROGRAM, "no program: `rt ci` builds crates/ctrsim/out/ctrsim, or CTRSIM names one")
+
+
+def run(main):
+    """Runs a tool. A pipe that closes early ends it as it ends any command, by the signal."""
+    signal.signal(signal.SIGPIPE, signal.SIG_DFL)
+    try:
+        status = main(sys.argv[1:])
+        sys.stdout.flush()
+    except End as end:
+        try:
+            sys.stdout.flush()
+        except OSError:
+            pass
+        note(end)
+        status = end.status
+    except KeyboardInterrupt:
+        status = 128 + signal.SIGINT
+    except OSError as error:
+        note("cannot write: %s" % error.strerror)
+        status = WRITE
+    # The streams are flushed by now, or can't be.
+    os._exit(status or 0)
