@@ -14,7 +14,9 @@ RISCV = 243
 EXECUTABLE, SHARED = 2, 3
 LOADED, DYNAMIC, INTERPRETER = 1, 2, 3
 SYMBOLS, ATTRIBUTES = 2, 0x70000003
-NO_TYPE, OBJECT, FUNCTION = 0, 1, 2
+INSTRUCTIONS = 4
+NO_BITS = 8
+NO_TYPE, FUNCTION = 0, 2
 COMPRESSED, FLOAT = 1, 6
 
 Segment = collections.namedtuple("Segment", "kind flags offset address physical filed size align")
@@ -171,10 +173,13 @@ class Functions:
 
 
 def is_function(elf, symbol):
-    """Whether a symbol names code: it stands in a section of instructions, and is no mark of an assembler."""
-    if symbol.kind not in (NO_TYPE, FUNCTION) or not symbol.name or re.match(r"\$|\.L|\.Ltmp|L0\x01", symbol.name):
+    """Whether a symbol names code: it is in a section of instructions, and is no mark of an assembler."""
+    if symbol.kind not in (NO_TYPE, FUNCTION) or not symbol.name or re.match(r"\$|\.L|L0\x01", symbol.name):
         return False
-    return 0 < symbol.section < len(elf.sections) and bool(elf.sections[symbol.section].flags & 4)
+    if not 0 < symbol.section < len(elf.sections):
+        return False
+    section = elf.sections[symbol.section]
+    return bool(section.flags & INSTRUCTIONS) and section.address <= symbol.address < section.address + section.size
 
 
 def read(path):

@@ -11,6 +11,7 @@
     8   the layout lacks a field that the tool needs
 """
 import argparse
+import contextlib
 import os
 import signal
 import sys
@@ -61,6 +62,23 @@ def content(path):
             return file.read()
     except OSError as error:
         raise End(READ, "cannot read %s: %s" % (path or "standard input", error.strerror)) from error
+
+
+@contextlib.contextmanager
+def created(path):
+    """A file to write bytes to; standard output where no path is given, or `-`, unless that is a terminal."""
+    if path in (None, "-"):
+        if sys.stdout.isatty():
+            raise End(USAGE, "standard output is a terminal: -o FILE or a pipe takes the bytes")
+        yield sys.stdout.buffer
+        sys.stdout.buffer.flush()
+        return
+    try:
+        file = open(path, "wb")
+    except OSError as error:
+        raise End(WRITE, "cannot write %s: %s" % (path, error.strerror)) from error
+    with file:
+        yield file
 
 
 def binary():

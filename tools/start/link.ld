@@ -3,7 +3,7 @@ ENTRY(_start)
 
 MEMORY
 {
-    ram (rwx) : ORIGIN = 0x80000000, LENGTH = 8192   /* MEM of the task line */
+    ram (rwx) : ORIGIN = 0x80000000, LENGTH = DEFINED(memory) ? memory : 1M   /* at most MEM of the task line */
 }
 
 SECTIONS

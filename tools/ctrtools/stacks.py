@@ -1,0 +1,91 @@
+"""The stack of functions that a sample shows, where its branches are the calls that haven't returned (call_stack of
+tools/record, RASEMU of the control words)."""
+import struct
+
+from . import elf
+
+CALLS = {4, 5}
+UNKNOWN = "[unknown]"
+LINKS = {1, 5}
+
+
+def is_call_stack(sample):
+    """Whether all branches of a sample are calls, as they are under return-stack emulation."""
+    return all(branch.flags >> 20 & 15 in CALLS for branch in sample.branches)
+
+
+class Stacks:
+    """The stacks of one program's samples."""
+
+    def __init__(self, program):
+        self.functions = elf.Functions(program)
+        self.tails = tails(program, self.functions)
+
+    def name(self, address):
+        found = self.functions.at(address)
+        return found[1] if found else UNKNOWN
+
+    def of(self, sample):
+        """The functions of a sample, the outermost first."""
+        frames = []
+        for branch in reversed(sample.branches):
+            self.come(frames, branch.source)
+            frames.append(self.name(branch.target))
+        self.come(frames, sample.ip)
+        return frames
+
+    def come(self, frames, address):
+        """The program came from the last frame to an address, and no record says how. It is still the last frame; or a tail
+        call led on to another function, as the code of the last one tells; or a jump went back to a frame further out, as
+        longjmp does; or an interrupt led to a handler."""
+        name = self.name(address)
+        if frames and name != frames[-1]:
+            if name in frames and name not in self.led_to(frames[-1]):
+                del frames[len(frames) - frames[::-1].index(name):]
+                return
+        if frames[-1:] != [name]:
+            frames.append(name)
+
+    def led_to(self, name):
+        """The functions that tail calls lead to from one, by one or more of them."""
+        reached, open_ends = set(), [name]
+        while open_ends:
+            for target in self.tails.get(open_ends.pop(), ()):
+                if target not in reached:
+                    reached.add(target)
+                    open_ends.append(target)
+        return reached
+
+
+def tails(program, functions):
+    """The functions that each one jumps to without a link, by name."""
+    found = {}
+    for section in program.sections:
+        if not section.flags & elf.INSTRUCTIONS or section.kind == elf.NO_BITS:
+            continue
+        high = {}
+        for at in range(0, section.size - 3, 4):
+            word, = struct.unpack_from("<I", program.data, section.offset + at)
+            address = section.address + at
+            target = jump_target(word, address, high)
+            high = {word >> 7 & 31: address + signed(word & 0xFFFFF000, 32)} if word & 127 == 0x17 else {}
+            here, there = functions.at(address), functions.at(target) if target is not None else None
+            if here and there and here != there:
+                found.setdefault(here[1], set()).add(there[1])
+    return found
+
+
+def jump_target(word, address, high):
+    """Where a jump without a link, or a branch, leads, or none: JAL, AUIPC with JALR, branches."""
+    opcode, link, first = word & 127, word >> 7 & 31, word >> 15 & 31
+    if opcode == 0x6F and link not in LINKS:
+        return address + signed((word >> 31 << 20) | (word >> 12 & 255) << 12 | (word >> 20 & 1) << 11 | (word >> 21 & 1023) << 1, 21)
+    if opcode == 0x67 and link not in LINKS and first in high:
+        return high[first] + signed(word >> 20, 12)
+    if opcode == 0x63:
+        return address + signed((word >> 31 << 12) | (word >> 7 & 1) << 11 | (word >> 25 & 63) << 5 | (word >> 8 & 15) << 1, 13)
+    return None
+
+
+def signed(value, bits):
+    return value - (1 << bits) if value >> (bits - 1) else value
