@@ -2,9 +2,11 @@
 
 Each line has the figure of the program, that of the yardstick in the same run, and the ratio of the two.
 """
+import hashlib
 import os
 import shutil
 import subprocess
+import tempfile
 import time
 
 HERE = os.path.dirname(os.path.abspath(__file__))
@@ -34,6 +36,38 @@ def seconds_of_file(command, path):
         begin = time.perf_counter()
         subprocess.run(command, stdin=f, stdout=subprocess.DEVNULL, check=True)
         return time.perf_counter() - begin
+
+
+def alternating(commands, times=5):
+    """The least, middle and greatest of the seconds that each of some commands takes, run in turn. A command is its words
+    and the path of its standard input."""
+    took = [[] for _ in commands]
+    for _ in range(times):
+        for found, (words, path) in zip(took, commands):
+            found.append(seconds_of_file(words, path))
+    return [(min(found), sorted(found)[times // 2], max(found)) for found in took]
+
+
+def spread(name, unit, ours, others):
+    """A line like that of `figures`, of the middle of several runs with the least and the greatest."""
+    line = "%-40s %8.3f (%.3f to %.3f) %s" % (name, ours[1], ours[0], ours[2], unit)
+    for label, other in others:
+        line += ", %s %8.3f (%.3f to %.3f), ratio %.2f" % (label, other[1], other[0], other[2], ours[1] / other[1])
+    print(line, flush=True)
+
+
+def digest(command, text):
+    """A digest of what a command writes."""
+    found = hashlib.sha256()
+    with tempfile.TemporaryFile() as source:
+        source.write(text)
+        source.seek(0)
+        child = subprocess.Popen(command, stdin=source, stdout=subprocess.PIPE)
+        for piece in iter(lambda: child.stdout.read(1 << 20), b""):
+            found.update(piece)
+    if child.wait():
+        raise SystemExit("%s ended with status %d" % (command[0], child.returncode))
+    return found.hexdigest()
 
 
 def system_calls(command, path, folder):

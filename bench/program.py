@@ -13,7 +13,8 @@ built to be checked and not to be fast. The runs are
     `show` on 100 MB of samples, from a file and from a pipe
     `demo 100000`
 
-Where bench/plain.c can make the same steps, it is run beside the program, by one task on one hart, without a switch.
+Beside each stands bench/plain_program.c, which does the same in plain C and must write the same bytes; for `demo` it runs
+the schedule as text. For `show` perf stands beside it too, where it is installed: `perf script` prints the same branches.
 """
 import os
 import struct
@@ -50,37 +51,55 @@ def samples(count):
     return (struct.pack("<IHHQIIQ", 9, 2, 32 + len(branches), 0x80000000, 1, 1, 16) + branches) * count
 
 
+def demo(turns):
+    """The schedule of `demo`, as docs/ctrsim.md has it."""
+    header = "ctr-schedule 1\nharts 4\nlayout 803\n" + "".join("task 12 12 %d 4 0 7\n" % (t % 5) for t in range(8))
+    commands = ["run %d %d %d\nsample %d\n" % ((i + i // 8) % 4, i % 8, 1 + (i * i + 3 * i) % 97, i % 8) for i in range(turns)]
+    return schedule(header, [struct.pack("<3I", 0x008000EF, 0x00000013, 0x00008067)] * 8, commands)
+
+
 class Runs:
     def __init__(self, binary, folder):
         self.binary, self.folder = binary, folder
-        self.plain = measure.compiled("plain.c", folder)
+        self.plain = measure.compiled("plain_program.c", folder)
         self.path = os.path.join(folder, "text")
 
-    def run(self, name, words, text, unit, units, plainly=None):
-        """A line of time with the ratio to the yardstick, and one of memory and system calls."""
-        command = [self.binary] + words
+    def run(self, name, words, text, unit, units, plain_text=None):
+        """A line of time with the ratio to the yardstick, one of host instructions, and one of memory and system calls."""
+        command, plain_words = [self.binary] + words, [self.plain] + words[:1]
+        if plain_text is None:
+            self.compared(command, plain_words, text)
+        else:
+            plain_words = [self.plain, "run"]
         with open(self.path, "wb") as f:
             f.write(text)
-        took = measure.seconds_of_file(command, self.path)
-        others = [("plain C", measure.seconds(plainly, None))] if self.plain and plainly else []
-        measure.figures(name, "seconds", took, others, 3)
-        line = "%-40s %8.3f million %s/s" % ("", units / took / 1e6, unit)
+        plain_path = self.path
+        if plain_text is not None:
+            plain_path = os.path.join(self.folder, "plain")
+            with open(plain_path, "wb") as f:
+                f.write(plain_text)
+        took, plainly = measure.alternating([(command, self.path), (plain_words, plain_path)])
+        measure.spread(name, "seconds", took, [("plain C", plainly)])
+        if measure.HAS_VALGRIND:
+            ours = measure.host_instructions(command, text, self.folder)
+            theirs = measure.host_instructions(plain_words, plain_text or text, self.folder)
+            measure.figures("", "host instructions/%s" % unit, ours / units, [("plain C", theirs / units)])
+        line = "%-40s %8.3f million %s/s" % ("", units / took[1] / 1e6, unit)
         line += ", peak memory %.1f MB" % measure.peak(command, text, self.folder)
         if measure.HAS_STRACE:
             line += ", %d reads, %d writes" % measure.system_calls(command, self.path, self.folder)
         print(line, flush=True)
 
+    def compared(self, command, plain, text):
+        """The end of the bench where the yardstick writes other bytes."""
+        ours, theirs = (measure.digest(words, text) for words in (command, plain))
+        if ours != theirs:
+            raise SystemExit("bench/program.py: %s writes other bytes than the program" % plain[0])
+
     def piped(self, name, words, text, unit, units):
         took = measure.seconds([self.binary] + words, text)
         measure.figures(name, "seconds", took, [], 3)
         print("%-40s %8.3f million %s/s" % ("", units / took / 1e6, unit), flush=True)
-
-    def plainly(self, words, count, depth):
-        """The command that makes so many steps of an image by plain.c."""
-        image = os.path.join(self.folder, "image")
-        with open(image, "wb") as f:
-            f.write(small.image_of(words))
-        return [self.plain, image, str(count), str(depth), "4", "0"] if self.plain else None
 
 
 def main(binary, part):
@@ -88,19 +107,16 @@ def main(binary, part):
     stream = samples(max(1, 100_000_000 // 416 // part))
     with tempfile.TemporaryDirectory() as folder:
         runs = Runs(binary, folder)
-        runs.run("a jump to itself", ["run"], one_task(JUMP, steps), "steps", steps, runs.plainly(JUMP, steps, 16))
+        runs.run("a jump to itself", ["run"], one_task(JUMP, steps), "step", steps)
         for code in (0, 4):
-            depth = 16 << code
-            runs.run("64 tasks over 16 harts, depth %d" % depth, ["run"], many_tasks(code, commands), "steps",
-                     100 * commands, runs.plainly(CALLS, 100 * commands, depth))
-        count = 10 * commands
-        runs.run("a sample every 10 steps", ["run"], one_task(CALLS, count, 10), "samples", commands,
-                 runs.plainly(CALLS, count, 16))
+            runs.run("64 tasks over 16 harts, depth %d" % (16 << code), ["run"], many_tasks(code, commands), "step",
+                     100 * commands)
+        runs.run("a sample every 10 steps", ["run"], one_task(CALLS, 10 * commands, 10), "sample", commands)
         idle = ["run 0 0 0\n"] * (10 * commands)
-        runs.run("%d commands of 0 steps" % len(idle), ["run"], one_task(JUMP, 0, 0, idle), "commands", len(idle))
-        runs.run("show, from a file", ["show", "803"], stream, "bytes", len(stream))
-        runs.piped("show, from a pipe", ["show", "803"], stream, "bytes", len(stream))
-        runs.run("demo %d" % turns, ["demo", str(turns)], b"", "turns", turns)
+        runs.run("%d commands of 0 steps" % len(idle), ["run"], one_task(JUMP, 0, 0, idle), "command", len(idle))
+        runs.run("show, from a file", ["show", "803"], stream, "byte", len(stream))
+        runs.piped("show, from a pipe", ["show", "803"], stream, "byte", len(stream))
+        runs.run("demo %d" % turns, ["demo", str(turns)], b"", "turn", turns, demo(turns))
 
 
 if __name__ == "__main__":
