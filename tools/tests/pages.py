@@ -1,0 +1,135 @@
+"""The commands of the pages, each block run as it stands; and C programs that aren't in the repository, by both compilers."""
+import os
+import re
+import shutil
+import subprocess
+import sys
+import unittest
+
+sys.path.insert(0, os.path.dirname(os.path.abspath(__file__)))
+
+import cases
+
+COMPILERS = ["riscv64-unknown-elf-gcc", "clang"]
+GCC_OF_THE_PAGE = "12.2.0"
+
+
+def missing(command):
+    """The compiler that a block of commands needs and that isn't here, or nothing."""
+    for name in COMPILERS:
+        if re.search(r"^%s " % name, command, re.M) and not (shutil.which(name) and (name != "clang" or shutil.which("ld.lld"))):
+            return name
+    return ""
+
+
+def is_gcc_of_the_page():
+    if not shutil.which(COMPILERS[0]):
+        return False
+    return subprocess.run([COMPILERS[0], "-dumpfullversion"], stdout=subprocess.PIPE, check=True).stdout.decode().strip() == GCC_OF_THE_PAGE
+
+
+class Pages(cases.Case):
+    def blocks(self, page):
+        """The blocks of a page: of commands, and of what they print."""
+        with open(os.path.join(cases.TOP, "docs", page), encoding="utf-8") as file:
+            return re.findall(r"^```(\w*)\n(.*?)^```$", file.read(), re.M | re.S)
+
+    def run_page(self, page):
+        """Runs the commands of a page, with another folder in the place of /tmp. What they print, and what the page says
+        that they print."""
+        printed, told = "", ""
+        with cases.environment(CTRSIM=cases.program()):
+            for kind, text in self.blocks(page):
+                if kind != "sh":
+                    told += text
+                elif missing(text):
+                    print("%s: a block of commands is left out, for want of %s" % (page, missing(text)))
+                else:
+                    command = ["bash", "-e", "-o", "pipefail", "-c", text.replace("/tmp", self.folder)]
+                    status, output, said = cases.run(command, cwd=cases.TOP)
+                    self.assertEqual(status, 0, (text, said))
+                    printed += said.decode() + output.decode()
+        return printed, told
+
+    def test_profiling_a_c_program(self):
+        if all(missing("%s " % name) for name in COMPILERS):
+            self.skipTest("no compiler for RISC-V")
+        printed, told = self.run_page("profiling-a-c-program.md")
+        self.assertRegex(printed, r"(?m)^enter;main;place;place;place;place;place;place;attacked \d+$")
+        if not is_gcc_of_the_page():
+            self.skipTest("what is printed isn't compared, since it is that of gcc %s" % GCC_OF_THE_PAGE)
+        for line in told.splitlines():
+            self.assertIn(line + "\n", printed)
+
+    def test_many_runs(self):
+        if missing("clang "):
+            self.skipTest("no clang with lld")
+        printed, _ = self.run_page("many-runs.md")
+        rows = [line.split() for line in printed.splitlines() if re.fullmatch(r"\w+ \d+ \d+ \d+", line)]
+        self.assertEqual(len(rows), 20)
+        stacks = {int(depth): int(full) for kind, depth, full, _ in rows if kind == "call_stack"}
+        # A deeper buffer is full in fewer samples; 256 entries hold all of the calls, which are 202 at most.
+        self.assertEqual(sorted(stacks.values(), reverse=True), [stacks[depth] for depth in (16, 32, 64, 128, 256)])
+        self.assertEqual(stacks[256], 0)
+        self.assertGreater(stacks[128], 0)
+
+
+# A program with a recursion, a tail call, a copy of a structure, and a multiplication.
+PROGRAM = b"""
+struct block { long words[32]; };
+static struct block from, to;
+volatile int result;
+__attribute__((noinline)) static int fib(int n) { return n < 2 ? n : fib(n - 1) + fib(n - 2); }
+__attribute__((noinline)) static int leaf(int k) { int s = 0; for (int i = 0; i < 100; i++) s += i * (k ^ s); return s; }
+__attribute__((noinline)) static int tail(int k) { result += k; return leaf(k + 1); }
+int main(void)
+{
+    for (int i = 0; i < 20; i++) {
+        to = from;
+        from.words[i] += result;
+        result += fib(9) + tail(i);
+    }
+    return 0;
+}
+"""
+COMMON = ["-mabi=lp64", "-mcmodel=medany", "-O2", "-ffreestanding", "-nostdlib", "-static"]
+COMMANDS = {"riscv64-unknown-elf-gcc": ["-march=rv64im_zicsr", "-Wl,--no-warn-rwx-segments"],
+            "clang": ["--target=riscv64", "-march=rv64im", "-fuse-ld=lld"]}
+
+
+class Programs(cases.Case):
+    def profiled(self, compiler, mode):
+        if missing(compiler + " "):
+            self.skipTest("no %s" % compiler)
+        start = os.path.join(cases.TOOLS, "start")
+        elf, samples = os.path.join(self.folder, "program"), os.path.join(self.folder, "samples")
+        sources = [os.path.join(start, "start.S"), os.path.join(start, "memory.S"), self.file("program.c", PROGRAM)]
+        words = [compiler] + COMMANDS[compiler] + COMMON + ["-DUSER"] * (mode == "U") + ["-T", os.path.join(start, "link.ld")]
+        subprocess.run(words + sources + ["-lgcc"] * ("gcc" in compiler) + ["-o", elf], check=True)
+        with cases.environment(CTRSIM=cases.program()):
+            status, _, said = cases.tool("record", elf, "--mode", mode, "--steps", "60000", "--every", "97", "-o", samples)
+        self.assertEqual(status, 0, said)
+        self.assertRegex(said, r"after 60000 steps it stood in mode %s at enter\+0x[48], as in the last" % mode)
+        status, text, said = cases.tool("fold", elf, "987", samples)
+        self.assertEqual((status, said), (0, ""))
+        stacks = [line.rsplit(" ", 1)[0] for line in text.splitlines()]
+        self.assertIn("enter;main;fib;fib", "\n".join(stacks))
+        # leaf is entered by the tail call of tail alone, if the compiler made one; main calls it otherwise.
+        self.assertTrue({"enter;main;tail;leaf", "enter;main;leaf"} & set(stacks), stacks)
+        self.assertFalse([stack for stack in stacks if "[unknown]" in stack or "trap" in stack])
+
+    def test_gcc_in_m(self):
+        self.profiled("riscv64-unknown-elf-gcc", "M")
+
+    def test_gcc_in_u(self):
+        self.profiled("riscv64-unknown-elf-gcc", "U")
+
+    def test_clang_in_m(self):
+        self.profiled("clang", "M")
+
+    def test_clang_in_u(self):
+        self.profiled("clang", "U")
+
+
+if __name__ == "__main__":
+    unittest.main()
