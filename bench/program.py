@@ -7,6 +7,8 @@ BINARY is crates/ctrsim/out/ctrsim where none is given. PART makes all inputs sm
 built to be checked and not to be fast. The runs are
 
     a jump to itself, 10,000,000 steps in one command
+    four tasks of 65,536 bytes that take turns on four harts, 250,000 steps each time, a sample after every 10,000:
+        100,000,000 steps
     64 tasks over 16 harts, each of which makes 100 steps on the next hart in turn: 100,000 commands, depths 16 and 256
     a sample after every 10 steps, 100,000 samples
     a schedule of 10 MB: 1,000,000 commands of 0 steps
@@ -36,6 +38,13 @@ def one_task(words, count, period=0, commands=None):
     image = small.image_of(words)
     header = "ctr-schedule 1\nharts 1\nlayout 803\ntask %d %d 0 4 0 %d\n" % (len(image), small.MEM, period)
     return schedule(header, [image], commands or ["run 0 0 %d\n" % count])
+
+
+def four_tasks(count):
+    """Four tasks that take turns on four harts, as a profiler would sample them."""
+    image = small.image_of(CALLS).ljust(65536, b"\0")
+    header = "ctr-schedule 1\nharts 4\nlayout 803\n" + "task 65536 65536 2 4 0 10000\n" * 4
+    return schedule(header, [image] * 4, ["run %d %d 250000\n" % ((i + i // 4) % 4, i % 4) for i in range(count // 250000)])
 
 
 def many_tasks(code, count):
@@ -108,6 +117,7 @@ def main(binary, part):
     with tempfile.TemporaryDirectory() as folder:
         runs = Runs(binary, folder)
         runs.run("a jump to itself", ["run"], one_task(JUMP, steps), "step", steps)
+        runs.run("four tasks on four harts", ["run"], four_tasks(10 * steps), "step", 10 * steps)
         for code in (0, 4):
             runs.run("64 tasks over 16 harts, depth %d" % (16 << code), ["run"], many_tasks(code, commands), "step",
                      100 * commands)
