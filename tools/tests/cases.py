@@ -1,4 +1,5 @@
 """What the tests of the tools share: running a tool, samples by their numbers, and the program."""
+import contextlib
 import importlib.machinery
 import importlib.util
 import io
@@ -39,6 +40,18 @@ def program():
         if place and os.path.isfile(place):
             return os.path.abspath(place)
     raise unittest.SkipTest("no program: CTRSIM names none, and crates/ctrsim/out/ctrsim isn't there")
+
+
+@contextlib.contextmanager
+def environment(**words):
+    """The environment with some words changed, for a while."""
+    before = dict(os.environ)
+    os.environ.update(words)
+    try:
+        yield
+    finally:
+        os.environ.clear()
+        os.environ.update(before)
 
 
 def module(name):
