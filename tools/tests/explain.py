@@ -123,7 +123,7 @@ class Explain(cases.Case):
                 (head + IMAGES[:5], 7, "input ended", "ask for 8 bytes of images, and 5 follow"),
                 (head.replace(b"task 4", b"task 40").replace(b"0 8", b"0 40").replace(b"0 4 4", b"0 40 4") + IMAGES +
                  b"run 0 0 1\nend\n", 7, "input ended", "the first command seems to stand behind 8"),
-                (head.replace(b"harts 2", b"harts 1") + IMAGES + b"run 1 0 1\n", 8, "no such hart", "perhaps `run 0 1`"),
+                (head.replace(b"harts 2", b"harts 1") + IMAGES + b"run 1 0 1\n", 8, "no such hart", "`run 0 1`"),
                 (head + IMAGES + b"end\n" + head, 9, "input goes on", "Another schedule begins there")):
             with self.subTest(schedule=schedule):
                 ended = self.explained(schedule)
