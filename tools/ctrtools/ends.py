@@ -65,9 +65,12 @@ def content(path):
 
 
 def binary():
-    """The path of the program: CTRSIM of the environment, the one that was built, or the one that was installed, where
-    this module is in PREFIX/libexec/ctrsim/ctrtools."""
-    places = [os.environ.get("CTRSIM"), os.path.join(TOP, "crates", "ctrsim", "out", "ctrsim"),
+    """The path of the program: CTRSIM of the environment, else the one that was built, else the one that was installed,
+    where this module is in PREFIX/libexec/ctrsim/ctrtools."""
+    named = os.environ.get("CTRSIM")
+    if named and not os.path.isfile(named):
+        raise End(PROGRAM, "CTRSIM names no file: %s" % named)
+    places = [named, os.path.join(TOP, "crates", "ctrsim", "out", "ctrsim"),
               os.path.join(os.path.dirname(TOP), "bin", "ctrsim")]
     for place in places:
         if place and os.path.isfile(place):

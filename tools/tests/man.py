@@ -1,4 +1,5 @@
-"""The man pages: without a warning of mandoc, with the statuses and texts of the Markdown pages, and an example that runs."""
+"""The man pages: without a warning of mandoc, with the statuses and texts of the Markdown pages, and an example that
+runs."""
 import os
 import re
 import shutil
