@@ -28,6 +28,27 @@ def items(text):
     return re.findall(r"^\.It (.*)$", text, re.M)
 
 
+def statuses(page):
+    return re.findall(r"^\| (\d+) \|", page, re.M)
+
+
+def refusals():
+    """The texts of `run` by the page of schedules, in its order."""
+    return re.findall(r"^\| [A-Z]\w+ \| .* \| `([a-z ]+)` \|$", read("schedule.md"), re.M)
+
+
+def broken():
+    """The texts of `show` by the page of samples, in its order."""
+    told = re.search(r"and `TooMany`, is (.*?)\. FIELD is", " ".join(read("samples.md").split()))
+    return re.findall(r"`([^`]+)`", told.group(1))
+
+
+def printed(table):
+    """The words in the first column of a table, each once."""
+    column = "".join(line.split(" | ")[0] for line in table.splitlines() if line.startswith("| "))
+    return list(dict.fromkeys(re.findall(r"`([^`]+)`", column)))
+
+
 class Man(cases.Case):
     def test_lint(self):
         self.assertEqual(sorted(os.listdir(PAGES)), NAMES)
@@ -36,8 +57,7 @@ class Man(cases.Case):
         self.assertEqual(cases.run(["mandoc", "-Tlint", "-Wall"] + NAMES, cwd=PAGES), (0, b"", b""))
 
     def test_statuses(self):
-        table = re.findall(r"^\| (\d+) \|", read("ctrsim.md"), re.M)
-        self.assertEqual(items(section("ctrsim.1", "EXIT STATUS")), table)
+        self.assertEqual(items(section("ctrsim.1", "EXIT STATUS")), statuses(read("ctrsim.md")))
 
     def test_lines_of_standard_error(self):
         said = items(section("ctrsim.1", "DIAGNOSTICS"))
@@ -45,14 +65,18 @@ class Man(cases.Case):
             self.assertIn(line.replace("\\|", "|"), said)
 
     def test_refusals(self):
-        table = re.findall(r"^\| [A-Z]\w+ \| .* \| `([a-z ]+)` \|$", read("schedule.md"), re.M)
-        self.assertEqual(len(table), 12)
-        self.assertEqual(items(section("ctr-schedule.5", "DIAGNOSTICS")), table)
+        self.assertEqual(len(refusals()), 12)
+        self.assertEqual(items(section("ctr-schedule.5", "DIAGNOSTICS")), refusals())
 
     def test_broken_samples(self):
-        text = " ".join(read("samples.md").split())
-        told = re.search(r"and `TooMany`, is (.*?)\. FIELD is", text).group(1)
-        self.assertEqual(items(section("ctr-samples.5", "DIAGNOSTICS")), re.findall(r"`([^`]+)`", told))
+        self.assertEqual(len(broken()), 8)
+        self.assertEqual(items(section("ctr-samples.5", "DIAGNOSTICS")), broken())
+
+    def test_page_of_refusals(self):
+        _, ends, run, show, _ = re.split(r"^## ", read("refusals.md"), flags=re.M)
+        self.assertEqual(statuses(ends), statuses(read("ctrsim.md")))
+        self.assertEqual([text for text in printed(run) if text in refusals()], refusals())
+        self.assertEqual(sorted(printed(show)), sorted(broken()))
 
     def test_example(self):
         block = re.findall(r"^\.Bd .*?\n(.*?)^\.Ed", section("ctrsim.1", "EXAMPLES"), re.M | re.S)
