@@ -22,7 +22,7 @@ REFUSED = [
     ("harts 2", "harts 17", 2, "out of range", "1 to 16 harts"),
     ("harts 2", "harts  2", 2, "unexpected words", "exactly one space"),
     ("harts 2", "harts x", 2, "not a number", "N is a decimal number"),
-    ("harts 2", "harts\t2", 2, "unexpected words", "a tab"),
+    ("harts 2", "harts\t16", 2, "unexpected words", "a tab"),
     ("harts 2", "Harts 2", 2, "unexpected words", "lower case: `harts`"),
     ("harts 2", "harts 2\r", 2, "not a number", "carriage return"),
     ("layout 883", "layout 0x883", 3, "not a number", "There is no prefix: write 883"),
