@@ -9,6 +9,7 @@
     6   the bytes from some offset on are no sample of the layout
     7   the program can't be run, or it ended with another status than 0
     8   the layout lacks a field that the tool needs
+    9   the program and the tool's own judgement of its input differ, which is an error in one of them
 """
 import argparse
 import contextlib
@@ -16,7 +17,7 @@ import os
 import signal
 import sys
 
-NO, USAGE, READ, WRITE, ELF, SAMPLE, PROGRAM, LAYOUT = range(1, 9)
+NO, USAGE, READ, WRITE, ELF, SAMPLE, PROGRAM, LAYOUT, JUDGEMENT = range(1, 10)
 
 TOP = os.path.dirname(os.path.dirname(os.path.dirname(os.path.realpath(__file__))))
 
@@ -82,12 +83,16 @@ def created(path):
 
 
 def binary():
-    """The path of the program: CTRSIM of the environment, the one that was installed, or the one that was built."""
-    places = [os.environ.get("CTRSIM"), os.path.join(TOP, "bin", "ctrsim"), os.path.join(TOP, "..", "bin", "ctrsim"),
-              os.path.join(TOP, "crates", "ctrsim", "out", "ctrsim")]
+    """The path of the program: CTRSIM of the environment, else the one that was built, else the one that was installed,
+    where this module is in PREFIX/libexec/ctrsim/ctrtools."""
+    named = os.environ.get("CTRSIM")
+    if named and not os.path.isfile(named):
+        raise End(PROGRAM, "CTRSIM names no file: %s" % named)
+    places = [named, os.path.join(TOP, "crates", "ctrsim", "out", "ctrsim"),
+              os.path.join(os.path.dirname(TOP), "bin", "ctrsim")]
     for place in places:
         if place and os.path.isfile(place):
-            return place
+            return os.path.abspath(place)
     raise End(PROGRAM, "no program: `rt ci` builds crates/ctrsim/out/ctrsim, or CTRSIM names one")
 
 

@@ -21,8 +21,8 @@ TYPES = ["unknown", "cond", "uncond", "ind", "call", "ind_call", "ret", "syscall
 
 # What `tools/record` asks for, and the other tools take where no layout is given: ip, tid, time, cpu, period, branches.
 USUAL = "987"
-LAYOUT_HELP = ("the word sample_type in hexadecimal, and behind a colon the branch word where it isn't 0, as 803 or 803:20000;"
-               " %s where none is given" % USUAL)
+LAYOUT_FORM = "the word sample_type in hexadecimal, and behind a colon the branch word where it isn't 0, as 803 or 803:20000"
+LAYOUT_HELP = "%s; %s where none is given" % (LAYOUT_FORM, USUAL)
 
 Branch = collections.namedtuple("Branch", "source target flags")
 
@@ -32,7 +32,7 @@ class Layout:
 
     def __init__(self, word=USUAL):
         if not re.fullmatch(r"[0-9a-fA-F]{1,16}(:[0-9a-fA-F]{1,16})?", word):
-            raise ends.End(ends.USAGE, "%s is no layout; one is %s" % (word, LAYOUT_HELP))
+            raise ends.End(ends.USAGE, "%s is no layout; one is %s" % (word, LAYOUT_FORM))
         bits, _, branch = word.partition(":")
         self.bits, self.branch = int(bits, 16), int(branch or "0", 16)
         if self.bits & ~KNOWN or not self.bits & BRANCH_STACK or self.branch not in (0, HW_INDEX):

@@ -1,0 +1,92 @@
+"""The man pages: without a warning of mandoc, with the statuses and texts of the Markdown pages, and an example that
+runs."""
+import os
+import re
+import shutil
+import sys
+import unittest
+
+sys.path.insert(0, os.path.dirname(os.path.abspath(__file__)))
+
+import cases
+
+PAGES = os.path.join(cases.TOP, "docs", "man")
+NAMES = ["ctr-samples.5", "ctr-schedule.5", "ctrsim.1"]
+
+
+def read(*path):
+    with open(os.path.join(cases.TOP, "docs", *path), encoding="utf-8") as file:
+        return file.read()
+
+
+def section(page, name):
+    """A section of a man page."""
+    return re.search(r"^\.Sh %s\n(.*?)(?=^\.Sh |\Z)" % name, read("man", page), re.M | re.S).group(1)
+
+
+def items(text):
+    return re.findall(r"^\.It (.*)$", text, re.M)
+
+
+def statuses(page):
+    return re.findall(r"^\| (\d+) \|", page, re.M)
+
+
+def refusals():
+    """The texts of `run` by the page of schedules, in its order."""
+    return re.findall(r"^\| [A-Z]\w+ \| .* \| `([a-z ]+)` \|$", read("schedule.md"), re.M)
+
+
+def broken():
+    """The texts of `show` by the page of samples, in its order."""
+    told = re.search(r"and `TooMany`, is (.*?)\. FIELD is", " ".join(read("samples.md").split()))
+    return re.findall(r"`([^`]+)`", told.group(1))
+
+
+def printed(table):
+    """The words in the first column of a table, each once."""
+    column = "".join(line.split(" | ")[0] for line in table.splitlines() if line.startswith("| "))
+    return list(dict.fromkeys(re.findall(r"`([^`]+)`", column)))
+
+
+class Man(cases.Case):
+    def test_lint(self):
+        self.assertEqual(sorted(os.listdir(PAGES)), NAMES)
+        if not shutil.which("mandoc"):
+            self.skipTest("no mandoc here")
+        self.assertEqual(cases.run(["mandoc", "-Tlint", "-Wall"] + NAMES, cwd=PAGES), (0, b"", b""))
+
+    def test_statuses(self):
+        self.assertEqual(items(section("ctrsim.1", "EXIT STATUS")), statuses(read("ctrsim.md")))
+
+    def test_lines_of_standard_error(self):
+        said = items(section("ctrsim.1", "DIAGNOSTICS"))
+        for line in re.findall(r"\| `(ctrsim: .*)` \|$", read("ctrsim.md"), re.M):
+            self.assertIn(line.replace("\\|", "|"), said)
+
+    def test_refusals(self):
+        self.assertEqual(len(refusals()), 12)
+        self.assertEqual(items(section("ctr-schedule.5", "DIAGNOSTICS")), refusals())
+
+    def test_broken_samples(self):
+        self.assertEqual(len(broken()), 8)
+        self.assertEqual(items(section("ctr-samples.5", "DIAGNOSTICS")), broken())
+
+    def test_page_of_refusals(self):
+        _, ends, run, show, _ = re.split(r"^## ", read("refusals.md"), flags=re.M)
+        self.assertEqual(statuses(ends), statuses(read("ctrsim.md")))
+        self.assertEqual([text for text in printed(run) if text in refusals()], refusals())
+        self.assertEqual(sorted(printed(show)), sorted(broken()))
+
+    def test_example(self):
+        block = re.findall(r"^\.Bd .*?\n(.*?)^\.Ed", section("ctrsim.1", "EXAMPLES"), re.M | re.S)
+        script, shown = (text.replace("\\e", "\\") for text in block)
+        os.symlink(cases.program(), os.path.join(self.folder, "ctrsim"))
+        words = {"PATH": self.folder + os.pathsep + os.environ["PATH"]}
+        status, output, said = cases.run(["sh", "-c", script], cwd=self.folder, env=words)
+        self.assertEqual((status, said), (0, b""))
+        self.assertTrue(output.decode().startswith(shown), output)
+
+
+if __name__ == "__main__":
+    unittest.main()
