@@ -11,6 +11,7 @@
     8   the layout lacks a field that the tool needs
 """
 import argparse
+import contextlib
 import os
 import signal
 import sys
@@ -52,6 +53,16 @@ def opened(path):
         return open(path, "rb")
     except OSError as error:
         raise End(READ, "cannot read %s: %s" % (path, error.strerror)) from error
+
+
+def created(path):
+    """A file to write bytes to, for a `with`; standard output where no path is given, or `-`."""
+    if path in (None, "-"):
+        return contextlib.nullcontext(sys.stdout.buffer)
+    try:
+        return open(path, "wb")
+    except OSError as error:
+        raise End(WRITE, "cannot write %s: %s" % (path, error.strerror)) from error
 
 
 def content(path):
