@@ -7,6 +7,7 @@ import struct
 COMM, MMAP2 = 3, 10
 KERNEL, USER, HYPERVISOR, GUEST_KERNEL, GUEST_USER = range(1, 6)
 MODE_BITS = 7
+GUESTS = (GUEST_KERNEL, GUEST_USER)
 
 # The words sample_type and branch_sample_type of the event.
 CALLCHAIN = 0x20
