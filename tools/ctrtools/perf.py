@@ -24,6 +24,7 @@ HAS_RECORDS = 1 << 8 | 1 << 9 | 1 << 23
 HEADER_SIZE, ATTRIBUTE_SIZE = 104, 112
 ARCHITECTURE, EVENT_NAMES, HAS_BRANCHES = 6, 12, 15
 
+PAGE = 4096
 READABLE, WRITABLE, RUNNABLE = 1, 2, 4
 PRIVATE = 2
 
@@ -31,12 +32,15 @@ Mapping = collections.namedtuple("Mapping", "address size offset protection path
 
 
 def mappings(elf, path):
-    """What a task maps of an ELF file: its segments that hold instructions."""
+    """What a task maps of an ELF file: its segments that hold instructions, from the beginning of a page, as a kernel maps
+    them and llvm-profgen expects it."""
     found = []
     for segment in elf.loaded():
         if segment.flags & 1:
             protection = RUNNABLE | (WRITABLE if segment.flags & 2 else 0) | (READABLE if segment.flags & 4 else 0)
-            found.append(Mapping(segment.address, segment.size, segment.offset, protection, os.path.abspath(path)))
+            before = min(segment.address % PAGE, segment.offset)
+            found.append(Mapping(segment.address - before, segment.size + before, segment.offset - before, protection,
+                                 os.path.abspath(path)))
     return found
 
 
