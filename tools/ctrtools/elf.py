@@ -69,8 +69,8 @@ class Elf:
         return found
 
     def without_marks(self):
-        """The bytes of the file, where the marks of the assembler have lost their names. The symbols stay where they are,
-        since relocations know them by their numbers."""
+        """The bytes of the file, where the marks of the assembler have lost their names. The symbols stay where they
+        are, since relocations know them by their numbers."""
         data = bytearray(self.data)
         for symbol in self.symbols:
             if is_mark(symbol):

@@ -1,4 +1,4 @@
-"""The perf.data file of `perf record`: its header, its one event, and the records that tell perf which file a task runs."""
+"""The perf.data file of `perf record`: its header, its one event, and the records that say which file a task runs."""
 import collections
 import os
 import shutil
@@ -32,8 +32,8 @@ Mapping = collections.namedtuple("Mapping", "address size offset protection path
 
 
 def mappings(elf, path):
-    """What a task maps of an ELF file: its segments that hold instructions, from the beginning of a page, as a kernel maps
-    them and llvm-profgen expects it."""
+    """What a task maps of an ELF file: its segments that hold instructions, from the beginning of a page, as a kernel
+    maps them and llvm-profgen expects it."""
     found = []
     for segment in elf.loaded():
         if segment.flags & 1:
@@ -89,8 +89,8 @@ def feature_string(text):
 
 
 def features(event, by_branches):
-    """The features behind the data, by their numbers: what perf has to know of the machine and of the event, and whether
-    `perf report` lists branches where it isn't told."""
+    """The features behind the data, by their numbers: what perf has to know of the machine and of the event, and
+    whether `perf report` lists branches where it isn't told."""
     names = struct.pack("<II", 1, len(event)) + event + struct.pack("<I", 0) + feature_string(EVENT)
     found = {ARCHITECTURE: feature_string("riscv64"), EVENT_NAMES: names}
     if by_branches:

@@ -29,7 +29,7 @@ class Text(unittest.TestCase):
 
     def test_mapping(self):
         done = tool("brstack", "803", ELF, input=sample())
-        # By readelf -l: the segment at 80000000 has 150 bytes, begins at 1000 of the file, and may be read, written and run.
+        # By readelf -l: the segment at 80000000 has 150 bytes, is at 1000 of the file, and may be read, written, run.
         self.assertEqual(done.stdout.splitlines()[0].decode(),
                          "PERF_RECORD_MMAP2 1/1: [0x80000000(0x150) @ 0x1000 00:00 0 0]: rwxp " + ELF)
 
@@ -70,6 +70,11 @@ class Perf(perf_tests.WithPerf):
         others = [1, 2, 3, 4, 8, 0x7FFF0, 0xFFFF0, 1 << 24, 3 << 24, 7 << 30]
         news = [15 << 20 | number << 26 for number in range(16)]
         self.compared(sample(*kinds, *others, *news) + sample(0) + sample(), "803")
+
+    def test_every_field(self):
+        fields = struct.pack("<QQIIQQQQIIQQQ", 5, 0x80000008, 2, 2, 9, 1, 5, 7, 3, 0, 997, 256, 255)
+        branches = b"".join(struct.pack("<QQQ", (1 << 64) - 1 - i, i << 32, i << 20 & 0xE00000) for i in range(256))
+        self.compared(struct.pack("<IHH", 9, 2, 8 + len(fields + branches)) + fields + branches, "10bcf:20000")
 
     def test_no_pid(self):
         ip = struct.pack("<IHHQQ", 9, 2, 24, 0x80000008, 0)

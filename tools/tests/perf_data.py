@@ -1,5 +1,6 @@
 """tools/perf_data: the bytes of a small file by hand, what perf makes of stored samples, and refusals."""
 import os
+import shutil
 import struct
 import sys
 import unittest
@@ -8,6 +9,8 @@ sys.dont_write_bytecode = True
 sys.path.insert(0, os.path.dirname(os.path.abspath(__file__)))
 import perf_tests
 from perf_tests import ELF, MODES, QUEENS, perf, stored, tool
+
+OBJDUMP = "riscv64-unknown-elf-objdump"
 
 # One sample of the layout 803, of mode U, ip 80000008, pid 1, one call: docs/samples.md, with another misc.
 ONE = bytes.fromhex("0900000002003800" "0800008000000000" "0100000001000000" "0100000000000000"
@@ -45,6 +48,16 @@ class Bytes(unittest.TestCase):
                          (3, (1 << 64) - 512, 0x80000110, 0x8000003C, 1))
 
 
+    def test_call_graph_frames_of_a_tail_call(self):
+        # main called place, which went on to attacked by a jump; that called solved. The sample was taken in place.
+        calls = struct.pack("<6Q", 0x80000060, 0x80000090, 4 << 20, 0x80000118, 0x80000094, 4 << 20)
+        sample = struct.pack("<IHHQIIQ", 9, 2, 80, 0x80000098, 1, 1, 2) + calls
+        done = tool("perf_data", "803", "--map", ELF, "--call-graph", "frames", input=sample)
+        at = done.stdout.index(struct.pack("<QII", 0x80000098, 1, 1)) + 16
+        self.assertEqual(struct.unpack_from("<8Q", done.stdout, at),
+                         (6, (1 << 64) - 512, 0x80000098, 0x80000090, 0x80000060, 0x80000094, 0x80000118, 2))
+
+
 class Said(unittest.TestCase):
     MODES = [b"perf_data: 2 samples of mode %s: " % mode for mode in (b"S", b"M", b"VS", b"VU")]
 
@@ -75,14 +88,24 @@ class Perf(perf_tests.WithPerf):
     def test_report(self):
         path = self.made("--map", ELF, "--symbols", self.path("symbols"), "-i", QUEENS)
         lines = perf("report", "-i", path, "--stdio", "--no-branch-stack").splitlines()
+        shares = [("83.33%", "attacked"), ("16.67%", "place")]
         self.assertEqual([line.split() for line in lines if line and line[0] != "#"],
-                         [["83.33%", "task0", "symbols", "[.]", "attacked"], ["16.67%", "task0", "symbols", "[.]", "place"]])
+                         [[share, "task0", "symbols", "[.]", name] for share, name in shares])
 
     def test_branch_history(self):
         path = self.made("--map", ELF, "--symbols", self.path("symbols"), "-i", QUEENS)
         text = perf("report", "-i", path, "--stdio", "--branch-history")
         self.assertIn("83.33%", text)
         self.assertIn("main ??:0 (CALL predicted:0.0%)", text)
+
+    @unittest.skipUnless(shutil.which(OBJDUMP), "no objdump for RISC-V is installed")
+    def test_annotate(self):
+        path = self.made("--map", ELF, "--symbols", self.path("symbols"), "-i", QUEENS)
+        text = perf("annotate", "-i", path, "--stdio", "--objdump=" + OBJDUMP, "-s", "attacked")
+        shares = {line.split()[2]: line.split()[0] for line in text.splitlines() if ":   8000" in line}
+        # Two of the five samples in attacked were taken at 80000070, and one at each of three others.
+        self.assertEqual({place: share for place, share in shares.items() if share != "0.00"},
+                         {"8000006c:": "20.00", "80000070:": "40.00", "80000078:": "20.00", "8000007c:": "20.00"})
 
     def test_stacks(self):
         for graph in ("lbr", "frames"):

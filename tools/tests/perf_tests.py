@@ -11,9 +11,9 @@ import unittest
 TESTS = os.path.dirname(os.path.abspath(__file__))
 TOOLS = os.path.dirname(TESTS)
 DATA = os.path.join(TESTS, "data")
-# The program of examples/recursive_calls in mode U, by gcc 12.2 with -Wl,--emit-relocs; six samples of its calls (MCTRCTL
-# 81), 997 steps apart; ten of which the modes, pids and times were changed, three branches kept, and one has none; and
-# twenty with all transfers but branches not taken (MCTRCTL 1). All have the layout 987.
+# The program of examples/recursive_calls in mode U, by gcc 12.2 with -Wl,--emit-relocs; six samples of its calls
+# (MCTRCTL 81), 997 steps apart; ten of which the modes, pids and times were changed, three branches kept, and one has
+# none; and twenty with all transfers but branches not taken (MCTRCTL 1). All have the layout 987.
 ELF, QUEENS, MODES, TRANSFERS = (os.path.join(DATA, name) for name in (
     "queens.elf", "queens.samples", "modes.samples", "transfers.samples"))
 TYPES = ["", "COND", "UNCOND", "IND", "CALL", "IND_CALL", "RET"]

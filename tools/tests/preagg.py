@@ -24,10 +24,10 @@ def sample(*branches):
     return struct.pack("<IHHQIIQ", 9, 2, 32 + len(body), 0x80000000, 1, 1, len(branches)) + body
 
 
-# By `nm -n`: enter is at 8000003c, attacked at 80000048 to 80000090, place at 80000094 to 8000010c, main at 8000010c.
+# By `nm -n`: attacked is at 80000048 to 80000090, place at 80000094 to 8000010c, main at 8000010c.
 # place calls itself, branches in the new call, and returns to where it was called, which calls attacked.
-RUN = sample((0x800000E8, 0x80000094, CALL), (0x800000AC, 0x800000B4, BRANCH | MISSED), (0x80000108, 0x800000EC, RETURN),
-             (0x800000F0, 0x800000C0, BRANCH), (0x800000C8, 0x80000048, CALL))
+RUN = sample((0x800000E8, 0x80000094, CALL), (0x800000AC, 0x800000B4, BRANCH | MISSED),
+             (0x80000108, 0x800000EC, RETURN), (0x800000F0, 0x800000C0, BRANCH), (0x800000C8, 0x80000048, CALL))
 BRANCHES = "B 800000ac 800000b4 1 1\nB 800000c8 80000048 1 0\nB 800000e8 80000094 1 0\nB 800000f0 800000c0 1 0\n" \
            "B 80000108 800000ec 1 0\n"
 
@@ -49,7 +49,7 @@ class Text(unittest.TestCase):
                          "B 800000c8 80000048 1 0\nB 80000118 80000094 1 0\nf 80000094 800000c8 1\n")
 
     def test_counts(self):
-        self.assertEqual(tool("preagg", "803", ELF, input=RUN * 3).stdout.decode().splitlines()[0], "B 800000ac 800000b4 3 3")
+        self.assertEqual(tool("preagg", "803", ELF, input=RUN * 3).stdout.splitlines()[0], b"B 800000ac 800000b4 3 3")
 
     def test_outside(self):
         run = sample((0x70000000, 0x80000048, CALL), (0x800000C8, 0x70000000, CALL), (0x70000004, 0x70000008, BRANCH))
