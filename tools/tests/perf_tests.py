@@ -105,6 +105,15 @@ class Refusals:
         self.assertEqual((done.returncode, done.stderr), (0, b""))
         self.assertIn(b"tools/%s LAYOUT" % self.TOOL.encode(), done.stdout)
 
+    def test_closed_ends(self):
+        command = [sys.executable, os.path.join(TOOLS, self.TOOL)] + self.GOOD
+        for closing, status, text in (("<&-", 3, b"cannot read"), (">&-", 4, b"cannot write"), ("2>&-", 0, b"")):
+            done = subprocess.run(["sh", "-c", '"$@" ' + closing, "sh"] + command, input=b"", stdout=subprocess.PIPE,
+                                  stderr=subprocess.PIPE)
+            self.assertEqual(done.returncode, status, done.stderr)
+            self.assertIn(text, done.stderr)
+            self.assertEqual(done.stderr.count(b"\n"), len(text) > 0, done.stderr)
+
     def test_closed_pipe(self):
         with subprocess.Popen([sys.executable, os.path.join(TOOLS, self.TOOL)] + self.GOOD, stdin=subprocess.PIPE,
                               stdout=subprocess.PIPE, stderr=subprocess.PIPE) as child:
