@@ -21,7 +21,7 @@ COMPRESSED, FLOAT = 1, 6
 
 Segment = collections.namedtuple("Segment", "kind flags offset address physical filed size align")
 Section = collections.namedtuple("Section", "name kind flags address offset size link info align entry")
-Symbol = collections.namedtuple("Symbol", "name address size kind binding section")
+Symbol = collections.namedtuple("Symbol", "name address size kind binding section offset")
 
 
 class Elf:
@@ -67,8 +67,17 @@ class Elf:
             names = self.sections[section.link].offset
             for at in range(section.offset, section.offset + section.size - 23, 24):
                 name, info, _, place, value, size = self.unpacked("<IBBHQQ", at)
-                found.append(Symbol(self.string(names + name), value, size, info & 15, info >> 4, place))
+                found.append(Symbol(self.string(names + name), value, size, info & 15, info >> 4, place, at))
         return found
+
+    def without_marks(self):
+        """The bytes of the file, where the marks of the assembler have lost their names. The symbols stay where they
+        are, since relocations know them by their numbers."""
+        data = bytearray(self.data)
+        for symbol in self.symbols:
+            if is_mark(symbol):
+                struct.pack_into("<I", data, symbol.offset, 0)
+        return bytes(data)
 
     def architecture(self):
         """What the attributes say of the architecture, as rv64i2p1_m2p0; nothing where they don't."""
@@ -172,9 +181,14 @@ class Functions:
         return found[1] if found[0] == address else "%s+0x%x" % (found[1], address - found[0])
 
 
+def is_mark(symbol):
+    """Whether a symbol is a mark of an assembler, as `$x` and `.L4`."""
+    return bool(re.match(r"\$|\.L|L0\x01", symbol.name))
+
+
 def is_function(elf, symbol):
     """Whether a symbol names code: it is in a section of instructions, and is no mark of an assembler."""
-    if symbol.kind not in (NO_TYPE, FUNCTION) or not symbol.name or re.match(r"\$|\.L|L0\x01", symbol.name):
+    if symbol.kind not in (NO_TYPE, FUNCTION) or not symbol.name or is_mark(symbol):
         return False
     if not 0 < symbol.section < len(elf.sections):
         return False

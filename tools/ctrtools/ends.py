@@ -42,18 +42,36 @@ class Arguments(argparse.ArgumentParser):
 
 
 def note(text):
-    """A line of what was left out, or of how it went, beside the output."""
-    print("%s: %s" % (os.path.basename(sys.argv[0]), text), file=sys.stderr)
+    """A line of what was left out, or of how it went, beside the output; nothing where it can't be written."""
+    try:
+        if sys.stderr is not None:
+            print("%s: %s" % (os.path.basename(sys.argv[0]), text), file=sys.stderr)
+    except OSError:
+        pass
 
 
 def opened(path):
     """A file to read bytes from; standard input where no path is given, or `-`."""
     if path in (None, "-"):
+        if sys.stdin is None:
+            raise End(READ, "cannot read standard input: it is closed")
         return sys.stdin.buffer
     try:
         return open(path, "rb")
     except OSError as error:
         raise End(READ, "cannot read %s: %s" % (path, error.strerror)) from error
+
+
+def created(path):
+    """A file to write bytes to, for a `with`; standard output where no path is given, or `-`."""
+    if path in (None, "-"):
+        if sys.stdout is None:
+            raise End(WRITE, "cannot write standard output: it is closed")
+        return contextlib.nullcontext(sys.stdout.buffer)
+    try:
+        return open(path, "wb")
+    except OSError as error:
+        raise End(WRITE, "cannot write %s: %s" % (path, error.strerror)) from error
 
 
 def content(path):
@@ -96,15 +114,21 @@ def binary():
     raise End(PROGRAM, "no program: `rt ci` builds crates/ctrsim/out/ctrsim, or CTRSIM names one")
 
 
+def flush():
+    """Writes out what is held back; a closed standard output holds nothing."""
+    if sys.stdout is not None:
+        sys.stdout.flush()
+
+
 def run(main):
     """Runs a tool. A pipe that closes early ends it as it ends any command, by the signal."""
     signal.signal(signal.SIGPIPE, signal.SIG_DFL)
     try:
         status = main(sys.argv[1:])
-        sys.stdout.flush()
+        flush()
     except End as end:
         try:
-            sys.stdout.flush()
+            flush()
         except OSError:
             pass
         note(end)

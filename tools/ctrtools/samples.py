@@ -24,6 +24,8 @@ USUAL = "987"
 LAYOUT_FORM = "the word sample_type in hexadecimal, and behind a colon the branch word where it isn't 0, as 803 or 803:20000"
 LAYOUT_HELP = "%s; %s where none is given" % (LAYOUT_FORM, USUAL)
 
+MISPREDICTED, PREDICTED = 1, 2
+
 Branch = collections.namedtuple("Branch", "source target flags")
 
 
