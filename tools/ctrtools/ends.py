@@ -74,6 +74,13 @@ def created(path):
         raise End(WRITE, "cannot write %s: %s" % (path, error.strerror)) from error
 
 
+def created_for_bytes(path):
+    """The same for what isn't text: a terminal doesn't take it."""
+    if path in (None, "-") and sys.stdout is not None and sys.stdout.isatty():
+        raise End(USAGE, "standard output is a terminal: -o FILE or a pipe takes the bytes")
+    return created(path)
+
+
 def content(path):
     """All bytes of a file, or of standard input."""
     try:
@@ -81,23 +88,6 @@ def content(path):
             return file.read()
     except OSError as error:
         raise End(READ, "cannot read %s: %s" % (path or "standard input", error.strerror)) from error
-
-
-@contextlib.contextmanager
-def created(path):
-    """A file to write bytes to; standard output where no path is given, or `-`, unless that is a terminal."""
-    if path in (None, "-"):
-        if sys.stdout.isatty():
-            raise End(USAGE, "standard output is a terminal: -o FILE or a pipe takes the bytes")
-        yield sys.stdout.buffer
-        sys.stdout.buffer.flush()
-        return
-    try:
-        file = open(path, "wb")
-    except OSError as error:
-        raise End(WRITE, "cannot write %s: %s" % (path, error.strerror)) from error
-    with file:
-        yield file
 
 
 def binary():

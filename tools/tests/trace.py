@@ -106,7 +106,7 @@ class Trace(cases.Case):
             "4 M 4 first written 1 call _start -> first", "4 M 4 first written 2 call _start -> first"])
         self.assertEqual(self.traced(start + sample(2, 0x80000048, [CALL, CALL, BRANCH]) + sample(3, 0x8000004C, [])), [
             "2 M 3 deep written 0 call _start -> first", "2 M 3 deep written 1 call _start -> first",
-            "2 M 3 deep written 2 cond deep -> deep, mispredicted", "3 M 0 __BSS_END__ cleared 3 branches"])
+            "2 M 3 deep written 2 cond deep -> deep, mispredicted", "3 M 0 deep+0x4 cleared 3 branches"])
 
     def test_tasks(self):
         stream = sample(1, 0x80000008, [CALL]) + sample(1, 0x80000004, [], pid=3) + sample(1, 0x80000008, [CALL], pid=2)
