@@ -15,46 +15,48 @@ def is_call_stack(sample):
 
 
 class Stacks:
-    """The stacks of one program's samples."""
+    """The stacks of one program's samples. A frame is the name of a function and the place that the program has reached in
+    it: that of the call that leads on, and of the innermost one that of the sample."""
 
     def __init__(self, program):
         self.functions = elf.Functions(program)
         self.tails = tails(program, self.functions)
+        self.reached = {}
 
     def name(self, address):
         found = self.functions.at(address)
         return found[1] if found else UNKNOWN
 
-    def of(self, sample):
-        """The functions of a sample, the outermost first."""
-        frames = []
+    def frames(self, sample):
+        """The frames of a sample, the outermost first."""
+        found = []
         for branch in reversed(sample.branches):
-            self.come(frames, branch.source)
-            frames.append(self.name(branch.target))
-        self.come(frames, sample.ip)
-        return frames
+            self.come(found, branch.source)
+            found.append((self.name(branch.target), branch.target))
+        self.come(found, sample.ip)
+        return found
 
-    def come(self, frames, address):
-        """The program came from the last frame to an address, and no record says how. It is still the last frame; or a tail
+    def come(self, found, address):
+        """The program came from the last frame to an address, and no record says how. It is still in that frame; or a tail
         call led on to another function, as the code of the last one tells; or a jump went back to a frame further out, as
         longjmp does; or an interrupt led to a handler."""
         name = self.name(address)
-        if frames and name != frames[-1]:
-            if name in frames and name not in self.led_to(frames[-1]):
-                del frames[len(frames) - frames[::-1].index(name):]
-                return
-        if frames[-1:] != [name]:
-            frames.append(name)
+        names = [frame for frame, _ in found]
+        if name in names and (name == names[-1] or name not in self.led_to(names[-1])):
+            del found[len(names) - 1 - names[::-1].index(name):]
+        found.append((name, address))
 
     def led_to(self, name):
         """The functions that tail calls lead to from one, by one or more of them."""
-        reached, open_ends = set(), [name]
-        while open_ends:
-            for target in self.tails.get(open_ends.pop(), ()):
-                if target not in reached:
-                    reached.add(target)
-                    open_ends.append(target)
-        return reached
+        if name not in self.reached:
+            reached, open_ends = set(), [name]
+            while open_ends:
+                for target in self.tails.get(open_ends.pop(), ()):
+                    if target not in reached:
+                        reached.add(target)
+                        open_ends.append(target)
+            self.reached[name] = reached
+        return self.reached[name]
 
 
 def tails(program, functions):

@@ -1,5 +1,6 @@
 """tools/fold: stacks of data/stacks.S, from samples made by hand."""
 import os
+import shutil
 import sys
 import unittest
 
@@ -93,6 +94,31 @@ class Fold(cases.Case):
 
     def test_nothing(self):
         self.assertEqual(self.folded(), ("", ""))
+
+    def test_perf_folds_the_same(self):
+        """The stacks that perf makes of the same samples, by the branches (lbr) where no tail call, handler or jump back
+        is among them, and by the chains of tools/perf_data."""
+        if not shutil.which("perf"):
+            self.skipTest("no perf")
+        plain = [sample(MAIN + 4, START_MAIN), sample(HOT + 4, START_MAIN, (MAIN, HOT, CALL)),
+                 sample(THROWER, START_MAIN, MAIN_OUTER, OUTER_INNER, INNER_THROWER), sample(LEAF, START_MAIN, (MAIN, LEAF, CALL))]
+        left = [START_MAIN, MAIN_OUTER, OUTER_INNER, INNER_THROWER]
+        others = [sample(LEAF, START_MAIN, MAIN_TAILER, HOT_LEAF), sample(HOT, START_MAIN, MAIN_TAILER),
+                  sample(INNER, *left, MAIN_OUTER_AGAIN, OUTER_INNER), sample(LEAF, START_MAIN, MAIN_OUTER, HANDLER_LEAF),
+                  sample(LEAF, START_MAIN, (MAIN, EVEN, CALL), ODD_EVEN, EVEN_LEAF)]
+        for graph, stream in (("lbr", plain), ("frames", plain), ("frames", plain + others + plain)):
+            self.assertEqual(self.by_perf(graph, stream), self.folded(*stream)[0], graph)
+
+    def by_perf(self, graph, stream):
+        """The lines of `perf script report stackcollapse`, without the name of the task."""
+        path = os.path.join(self.folder, "perf.data")
+        status, _, said = cases.tool("perf_data", "803", "--map", ELF, "--as-user", "--call-graph", graph, "-o", path,
+                                     given=b"".join(stream))
+        self.assertEqual(status, 0, said)
+        status, text, said = cases.run(["perf", "script", "report", "stackcollapse", "-i", path])
+        lines = [line.partition(";")[2] for line in text.decode().splitlines() if line.startswith("task0;")]
+        self.assertTrue(lines, said)
+        return "".join(line + "\n" for line in sorted(lines))
 
     def test_closed_pipe(self):
         self.closed_pipe("fold", ELF, "803", given=sample(LEAF))

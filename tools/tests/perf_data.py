@@ -47,15 +47,14 @@ class Bytes(unittest.TestCase):
         self.assertEqual(struct.unpack_from("<5Q", done.stdout, at),
                          (3, (1 << 64) - 512, 0x80000110, 0x8000003C, 1))
 
-
     def test_call_graph_frames_of_a_tail_call(self):
-        # main called place, which went on to attacked by a jump; that called solved. The sample was taken in place.
+        # main called place, which went on to attacked by a jump; that called solved, where the sample was taken.
         calls = struct.pack("<6Q", 0x80000060, 0x80000090, 4 << 20, 0x80000118, 0x80000094, 4 << 20)
-        sample = struct.pack("<IHHQIIQ", 9, 2, 80, 0x80000098, 1, 1, 2) + calls
+        sample = struct.pack("<IHHQIIQ", 9, 2, 80, 0x80000090, 1, 1, 2) + calls
         done = tool("perf_data", "803", "--map", ELF, "--call-graph", "frames", input=sample)
-        at = done.stdout.index(struct.pack("<QII", 0x80000098, 1, 1)) + 16
-        self.assertEqual(struct.unpack_from("<8Q", done.stdout, at),
-                         (6, (1 << 64) - 512, 0x80000098, 0x80000090, 0x80000060, 0x80000094, 0x80000118, 2))
+        at = done.stdout.index(struct.pack("<QII", 0x80000090, 1, 1)) + 16
+        self.assertEqual(struct.unpack_from("<7Q", done.stdout, at),
+                         (5, (1 << 64) - 512, 0x80000090, 0x80000060, 0x80000094, 0x80000118, 2))
 
 
 class Said(unittest.TestCase):
