@@ -11,12 +11,13 @@ sys.path.insert(0, os.path.dirname(os.path.abspath(__file__)))
 import cases
 
 COMPILERS = ["riscv64-unknown-elf-gcc", "clang"]
+BOLT = "/usr/lib/llvm-19/bin/llvm-bolt"
 GCC_OF_THE_PAGE = "12.2.0"
 
 
 def missing(command):
-    """The compiler that a block of commands needs and that isn't here, or nothing."""
-    for name in COMPILERS:
+    """The compiler, or perf, that a block of commands needs and that isn't here, or nothing."""
+    for name in COMPILERS + ["perf"]:
         if re.search(r"^%s " % name, command, re.M) and not (shutil.which(name) and (name != "clang" or shutil.which("ld.lld"))):
             return name
     return ""
@@ -34,9 +35,9 @@ class Pages(cases.Case):
         with open(os.path.join(cases.TOP, "docs", page), encoding="utf-8") as file:
             return re.findall(r"^```(\w*)\n(.*?)^```$", file.read(), re.M | re.S)
 
-    def run_page(self, page):
-        """Runs the commands of a page, with another folder in the place of /tmp. What they print, and what the page says
-        that they print."""
+    def run_page(self, page, folder=cases.TOP):
+        """Runs the commands of a page in a folder, with another one in the place of /tmp. What they print, and what the
+        page says that they print."""
         printed, told = "", ""
         with cases.environment(CTRSIM=cases.program()):
             for kind, text in self.blocks(page):
@@ -46,7 +47,7 @@ class Pages(cases.Case):
                     print("%s: a block of commands is left out, for want of %s" % (page, missing(text)))
                 else:
                     command = ["bash", "-e", "-o", "pipefail", "-c", text.replace("/tmp", self.folder)]
-                    status, output, said = cases.run(command, cwd=cases.TOP)
+                    status, output, said = cases.run(command, cwd=folder)
                     self.assertEqual(status, 0, (text, said))
                     printed += said.decode() + output.decode()
         return printed, told
@@ -60,6 +61,23 @@ class Pages(cases.Case):
             self.skipTest("what is printed isn't compared, since it is that of gcc %s" % GCC_OF_THE_PAGE)
         for line in told.splitlines():
             self.assertIn(line + "\n", printed)
+
+    def test_tools_with_perf(self):
+        if missing("clang ") or missing("perf "):
+            self.skipTest("no clang with lld, or no perf")
+        self.run_page("profiling-a-c-program.md")
+        printed, _ = self.run_page("tools.md")
+        self.assertRegex(printed, r"(?m)^task0;enter;main;place;place;place;place;place;place;attacked \d+$")
+
+    def test_from_samples_to_bolt(self):
+        if missing("riscv64-unknown-elf-gcc ") or missing("perf ") or not os.path.exists(BOLT) or not is_gcc_of_the_page():
+            self.skipTest("no perf, no bolt-19, or no gcc %s for RISC-V" % GCC_OF_THE_PAGE)
+        blocks = [text for kind, text in self.blocks("from-samples-to-bolt.md") if kind == "sh"]
+        with cases.environment(CTRSIM=cases.program(), TOOLS=cases.TOOLS):
+            status, output, said = cases.run(["bash", "-e", "-o", "pipefail", "-c", "\n".join(blocks)], cwd=self.folder)
+        self.assertEqual(status, 0, said)
+        # The steps before and after, as the page has them.
+        self.assertEqual([line for line in output.decode().splitlines() if re.fullmatch(r"\d+", line)][:2], ["88900", "85500"])
 
     def test_many_runs(self):
         if missing("clang "):
