@@ -21,8 +21,10 @@ pub enum ShowFault {
     Write,
 }
 
-// Hands the text of a sample to the sink.
+// Hands the text of a sample to the sink. `text` is the room for it, whatever it holds: a room made for each sample would be
+// cleared each time.
 fn write_text<K: Sink>(
+    text: &mut Text,
     sink: &mut K,
     layout: Layout,
     offset: u64,
@@ -34,8 +36,7 @@ fn write_text<K: Sink>(
     ensures later { K.faults sink.old ≤ K.faults sink.new }
     ensures cause { OnErr result (Rose (K.faults sink.old) (K.faults sink.new)) }
 {
-    let mut text = Text::new();
-    put_sample(&mut text, layout, offset, sample);
+    put_sample(text, layout, offset, sample);
     write_whole(sink, text.as_slice())
 }
 
@@ -54,10 +55,17 @@ fn show_each<S: Source, K: Sink>(
     ensures write { result ≡ Err ShowFault.Write → Rose (K.faults sink.old) (K.faults sink.new) }
 {
     let mut reader = SampleReader::new(layout);
+    let mut text = Text::new();
     loop {
         match reader.next(source) {
             Ok(next) => match next {
-                Some(sample) => match write_text(sink, layout, reader.offset(), &sample) {
+                Some(sample) => match write_text(
+                    &mut text,
+                    sink,
+                    layout,
+                    reader.offset(),
+                    &sample,
+                ) {
                     Ok(()) => {}
                     Err(_) => return Err(ShowFault::Write),
                 },
