@@ -11,17 +11,19 @@ MOST_BRANCHES = 256
 
 # The fields between header and branches, in their order: the bit of the layout, the name of its first word, of its second
 # one where it is two of four bytes, and the form.
-FIELDS = [(0x10000, "identifier", None), (0x1, "ip", None), (0x2, "pid", "tid"), (0x4, "time", None), (0x8, "addr", None),
-          (0x40, "id", None), (0x200, "stream_id", None), (0x80, "cpu", None), (0x100, "period", None)]
+FIELDS = [(0x10000, "identifier", None), (0x1, "ip", None), (0x2, "pid", "tid"), (0x4, "time", None),
+          (0x8, "addr", None), (0x40, "id", None), (0x200, "stream_id", None), (0x80, "cpu", None),
+          (0x100, "period", None)]
 KNOWN = BRANCH_STACK | sum(bit for bit, _, _ in FIELDS)
 
 MODES = {1: "S", 2: "U", 3: "M", 4: "VS", 5: "VU"}
-TYPES = ["unknown", "cond", "uncond", "ind", "call", "ind_call", "ret", "syscall", "sysret", "cond_call", "cond_ret", "eret",
-         "irq", "serror", "no_tx", "extend_abi"]
+TYPES = ["unknown", "cond", "uncond", "ind", "call", "ind_call", "ret", "syscall", "sysret", "cond_call", "cond_ret",
+         "eret", "irq", "serror", "no_tx", "extend_abi"]
 
 # What `tools/record` asks for, and the other tools take where no layout is given: ip, tid, time, cpu, period, branches.
 USUAL = "987"
-LAYOUT_FORM = "the word sample_type in hexadecimal, and behind a colon the branch word where it isn't 0, as 803 or 803:20000"
+LAYOUT_FORM = ("the word sample_type in hexadecimal, and behind a colon the branch word where it isn't 0, as 803 or"
+               " 803:20000")
 LAYOUT_HELP = "%s; %s where none is given" % (LAYOUT_FORM, USUAL)
 
 MISPREDICTED, PREDICTED = 1, 2

@@ -81,11 +81,13 @@ def jump_target(word, address, high):
     """Where a jump without a link, or a branch, leads, or none: JAL, AUIPC with JALR, branches."""
     opcode, link, first = word & 127, word >> 7 & 31, word >> 15 & 31
     if opcode == 0x6F and link not in LINKS:
-        return address + signed((word >> 31 << 20) | (word >> 12 & 255) << 12 | (word >> 20 & 1) << 11 | (word >> 21 & 1023) << 1, 21)
+        return address + signed(word >> 31 << 20 | (word >> 12 & 255) << 12 | (word >> 20 & 1) << 11
+                                | (word >> 21 & 1023) << 1, 21)
     if opcode == 0x67 and link not in LINKS and first in high:
         return high[first] + signed(word >> 20, 12)
     if opcode == 0x63:
-        return address + signed((word >> 31 << 12) | (word >> 7 & 1) << 11 | (word >> 25 & 63) << 5 | (word >> 8 & 15) << 1, 13)
+        return address + signed(word >> 31 << 12 | (word >> 7 & 1) << 11 | (word >> 25 & 63) << 5
+                                | (word >> 8 & 15) << 1, 13)
     return None
 
 

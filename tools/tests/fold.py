@@ -101,7 +101,8 @@ class Fold(cases.Case):
         if not shutil.which("perf"):
             self.skipTest("no perf")
         plain = [sample(MAIN + 4, START_MAIN), sample(HOT + 4, START_MAIN, (MAIN, HOT, CALL)),
-                 sample(THROWER, START_MAIN, MAIN_OUTER, OUTER_INNER, INNER_THROWER), sample(LEAF, START_MAIN, (MAIN, LEAF, CALL))]
+                 sample(THROWER, START_MAIN, MAIN_OUTER, OUTER_INNER, INNER_THROWER),
+                 sample(LEAF, START_MAIN, (MAIN, LEAF, CALL))]
         left = [START_MAIN, MAIN_OUTER, OUTER_INNER, INNER_THROWER]
         others = [sample(LEAF, START_MAIN, MAIN_TAILER, HOT_LEAF), sample(HOT, START_MAIN, MAIN_TAILER),
                   sample(INNER, *left, MAIN_OUTER_AGAIN, OUTER_INNER), sample(LEAF, START_MAIN, MAIN_OUTER, HANDLER_LEAF),

@@ -1,4 +1,4 @@
-"""The commands of the pages, each block run as it stands; and C programs that aren't in the repository, by both compilers."""
+"""The commands of the pages, each block run as it stands; and a C program that isn't in a page, by both compilers."""
 import os
 import re
 import shutil
@@ -18,15 +18,20 @@ GCC_OF_THE_PAGE = "12.2.0"
 def missing(command):
     """The compiler, or perf, that a block of commands needs and that isn't here, or nothing."""
     for name in COMPILERS + ["perf"]:
-        if re.search(r"^%s " % name, command, re.M) and not (shutil.which(name) and (name != "clang" or shutil.which("ld.lld"))):
+        if re.search(r"^%s " % name, command, re.M) and not is_here(name):
             return name
     return ""
+
+
+def is_here(name):
+    return bool(shutil.which(name)) and (name != "clang" or bool(shutil.which("ld.lld")))
 
 
 def is_gcc_of_the_page():
     if not shutil.which(COMPILERS[0]):
         return False
-    return subprocess.run([COMPILERS[0], "-dumpfullversion"], stdout=subprocess.PIPE, check=True).stdout.decode().strip() == GCC_OF_THE_PAGE
+    said = subprocess.run([COMPILERS[0], "-dumpfullversion"], stdout=subprocess.PIPE, check=True).stdout
+    return said.decode().strip() == GCC_OF_THE_PAGE
 
 
 class Pages(cases.Case):
@@ -70,7 +75,7 @@ class Pages(cases.Case):
         self.assertRegex(printed, r"(?m)^task0;enter;main;place;place;place;place;place;place;attacked \d+$")
 
     def test_from_samples_to_bolt(self):
-        if missing("riscv64-unknown-elf-gcc ") or missing("perf ") or not os.path.exists(BOLT) or not is_gcc_of_the_page():
+        if missing("perf ") or not os.path.exists(BOLT) or not is_gcc_of_the_page():
             self.skipTest("no perf, no bolt-19, or no gcc %s for RISC-V" % GCC_OF_THE_PAGE)
         blocks = [text for kind, text in self.blocks("from-samples-to-bolt.md") if kind == "sh"]
         with cases.environment(CTRSIM=cases.program(), TOOLS=cases.TOOLS):
@@ -122,8 +127,9 @@ class Programs(cases.Case):
         start = os.path.join(cases.TOOLS, "start")
         elf, samples = os.path.join(self.folder, "program"), os.path.join(self.folder, "samples")
         sources = [os.path.join(start, "start.S"), os.path.join(start, "memory.S"), self.file("program.c", PROGRAM)]
-        words = [compiler] + COMMANDS[compiler] + COMMON + ["-DUSER"] * (mode == "U") + ["-T", os.path.join(start, "link.ld")]
-        subprocess.run(words + sources + ["-lgcc"] * ("gcc" in compiler) + ["-o", elf], check=True)
+        words = [compiler] + COMMANDS[compiler] + COMMON + ["-DUSER"] * (mode == "U")
+        words += ["-T", os.path.join(start, "link.ld")] + sources + ["-lgcc"] * ("gcc" in compiler)
+        subprocess.run(words + ["-o", elf], check=True)
         with cases.environment(CTRSIM=cases.program()):
             status, _, said = cases.tool("record", elf, "--mode", mode, "--steps", "60000", "--every", "97", "-o", samples)
         self.assertEqual(status, 0, said)
