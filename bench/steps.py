@@ -1,7 +1,9 @@
 #!/usr/bin/env python3
-"""Steps a second, host instructions a step, and peak memory of the built program, beside bench/plain.c.
+"""Host instructions a step, steps a second, and peak memory of the built program, beside bench/plain.c.
 
     bench/steps.py [STEPS]     (100000000 where none are given)
+
+Steps a second are the middle of five runs, with the least and the greatest; the two programs run in turn.
 """
 import os
 import struct
@@ -49,22 +51,28 @@ def per_step(make, text_of, folder):
     return (last - first) / FEW
 
 
+def speeds(count, commands):
+    """Of each of some commands, with the paths of their input, the least, middle and greatest of its million steps a second."""
+    return [tuple(count / took / 1e6 for took in reversed(times)) for times in measure.alternating(commands)]
+
+
 def main(steps):
     with tempfile.TemporaryDirectory() as folder:
         plain = measure.compiled("plain.c", folder)
+        image, path = os.path.join(folder, "image"), os.path.join(folder, "schedule")
         for name, words, code, control, irqs in LOOPS:
-            image = os.path.join(folder, "image")
             with open(image, "wb") as f:
                 f.write(image_of(words))
+            with open(path, "wb") as f:
+                f.write(schedule(words, code, control, irqs, steps))
             text_of = lambda n: schedule(words, code, control, irqs, n)
             plainly = lambda n: [plain, image, str(n), str(16 << code), "%x" % control, str(irqs)]
-            speed = steps / measure.seconds([BINARY, "run"], text_of(steps)) / 1e6
-            others = [("plain C", steps / measure.seconds(plainly(steps), None) / 1e6)] if plain else []
-            measure.figures(name, "million steps/s", speed, others)
             if measure.HAS_VALGRIND:
                 cost = per_step(lambda n: [BINARY, "run"], text_of, folder)
                 others = [("plain C", per_step(plainly, lambda n: None, folder))] if plain else []
-                measure.figures("", "host instructions/step", cost, others)
+                measure.figures(name, "host instructions/step", cost, others)
+            ours, *theirs = speeds(steps, [([BINARY, "run"], path)] + ([(plainly(steps), os.devnull)] if plain else []))
+            measure.spread("", "million steps/s", ours, [("plain C", found) for found in theirs])
         for mem in (MEM, 1048576):
             text = schedule(MIXED, 4, ON, 1024, steps, mem)
             print("peak memory %.1f MB with MEM %d" % (measure.peak([BINARY, "run"], text, folder), mem))
