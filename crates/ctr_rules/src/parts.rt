@@ -11,7 +11,6 @@ use xfer_class::XferType;
 
 // Whether transfers within the mode are recorded.
 #[tactic(auto, using(crate::proofs::BitLemmas::enabled_by_bit))]
-#[inline(always)]
 pub(crate) fn is_enabled(mode: Mode, m: Control, vs: Control) -> bool
     ensures { result ≡ enables m vs mode }
 {
@@ -20,7 +19,6 @@ pub(crate) fn is_enabled(mode: Mode, m: Control, vs: Control) -> bool
 }
 
 // The bit of a control register that enables the mode. Without a jump for each mode.
-#[inline(always)]
 fn mode_bit(mode: Mode) -> ControlBit
     ensures { result ≡ mode_bit mode }
 {
@@ -38,7 +36,6 @@ fn is_guest(mode: Mode) -> bool
 }
 
 // The register whose filter bits and RASEMU count.
-#[inline(always)]
 pub(crate) fn filter_register(transfer: Transfer, m: Control, vs: Control) -> Control
     ensures { result ≡ filter_of transfer m vs }
 {
@@ -57,7 +54,6 @@ pub(crate) fn is_of_a_trap(kind: XferType) -> bool
 
 // Whether the filter register keeps the transfer type out.
 #[tactic(auto, using(crate::proofs::BitLemmas::inhibited_by_bit))]
-#[inline(always)]
 pub(crate) fn is_inhibited(filter: Control, kind: XferType) -> bool
     ensures { result ≡ inhibits filter kind }
 {
@@ -66,7 +62,6 @@ pub(crate) fn is_inhibited(filter: Control, kind: XferType) -> bool
 }
 
 // Whether the filter bit of the transfer type lets it in where it is set: NTBREN alone.
-#[inline(always)]
 fn lets_in(kind: XferType) -> bool
     ensures { result ≡ lets_in kind }
 {
@@ -74,7 +69,6 @@ fn lets_in(kind: XferType) -> bool
 }
 
 // The filter bit of a transfer type.
-#[inline(always)]
 fn filter_bit(kind: XferType) -> ControlBit
     ensures { result ≡ filter_bit kind }
 {

@@ -81,7 +81,6 @@ fn recorded(transfer: Transfer, m: Control, vs: Control) -> Act
 }
 
 // What a transfer within enabled modes does under return-stack emulation.
-#[inline(always)]
 fn emulated(transfer: Transfer) -> Act
     ensures { result ≡ emulated_act transfer }
 {
@@ -94,7 +93,6 @@ fn emulated(transfer: Transfer) -> Act
     }
 }
 
-#[inline(always)]
 fn record_of(transfer: Transfer, source: u64, target: u64) -> Record
     ensures { result ≡ record_of transfer source target }
 {
