@@ -41,18 +41,27 @@ class Elf:
         for i in range(count):
             kind, flags, *rest = self.unpacked("<IIQQQQQQ", at + i * size)
             self.segments.append(Segment(kind, flags, *rest))
+            self.is_there(self.segments[-1].offset, self.segments[-1].filed)
         raw = [self.unpacked("<IIQQQQIIQQ", sections_at + i * section_size) for i in range(section_count)]
         strings = raw[names][4] if names < len(raw) else 0
         self.sections = [Section(self.string(strings + words[0]) if strings else "", *words[1:]) for words in raw]
+        for section in self.sections:
+            if section.kind != NO_BITS:
+                self.is_there(section.offset, section.size)
         self.symbols = self.read_symbols()
 
     def refused(self, text):
         return ends.End(ends.ELF, "%s: %s" % (self.name, text))
 
+    def is_there(self, offset, size):
+        """The end of the tool where the file lacks some bytes that it says that it has."""
+        if offset + size > len(self.data):
+            raise self.refused("cut or broken: %d bytes at byte %d aren't there" % (size, offset))
+
     def unpacked(self, form, at):
         try:
             return struct.unpack_from(form, self.data, at)
-        except struct.error as error:
+        except (struct.error, OverflowError) as error:
             raise self.refused("cut or broken at byte %d" % at) from error
 
     def string(self, at):
@@ -105,6 +114,8 @@ class Elf:
             if segment.address < BASE or segment.address + segment.size > BASE + MOST_MEMORY:
                 raise self.refused("a segment at %x to %x, outside the memory 80000000 to 80100000"
                                    % (segment.address, segment.address + segment.size))
+            if segment.filed > segment.size:
+                raise self.refused("a segment has more bytes in the file than in memory")
             if segment.filed:
                 at, end = segment.address - BASE, segment.address - BASE + segment.filed
                 image += bytes(max(0, end - len(image)))

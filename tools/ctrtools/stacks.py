@@ -1,7 +1,5 @@
 """The stack of functions that a sample shows, where its branches are the calls that haven't returned (call_stack of
 tools/record, RASEMU of the control words)."""
-import struct
-
 from . import elf
 
 CALLS = {4, 5}
@@ -67,7 +65,7 @@ def tails(program, functions):
             continue
         high = {}
         for at in range(0, section.size - 3, 4):
-            word, = struct.unpack_from("<I", program.data, section.offset + at)
+            word, = program.unpacked("<I", section.offset + at)
             address = section.address + at
             target = jump_target(word, address, high)
             high = {word >> 7 & 31: address + signed(word & 0xFFFFF000, 32)} if word & 127 == 0x17 else {}

@@ -34,7 +34,10 @@ class Record(cases.Case):
                               ([(48, "<I", 4)], "floating-point code"), ([(24, "<Q", 0x80000004)], "entry is 80000004"),
                               ([(segment + 16, "<Q", 0x80100000)], "outside the memory"),
                               ([(segment + 16, "<Q", 0x7FFFFFFC)], "outside the memory"),
-                              ([(32, "<Q", 1 << 40)], "cut or broken")):
+                              ([(32, "<Q", 1 << 40)], "cut or broken"), ([(40, "<Q", 1 << 63)], "cut or broken"),
+                              ([(segment + 8, "<Q", 1 << 40)], "aren't there"),
+                              ([(segment + 32, "<Q", 1 << 19), (segment + 40, "<Q", 8)], "aren't there"),
+                              ([(segment + 40, "<Q", 8)], "more bytes in the file than in memory")):
             self.ends(cases.tool("record", self.changed(*changes)), 5, said)
         self.ends(cases.tool("record", self.file("cut.elf", cases.data("stacks.elf")[:60])), 5, "not of 64 bits")
 
