@@ -19,7 +19,9 @@ Beside each stands bench/plain_program.c, which does the same in plain C and mus
 the schedule as text. For `show` perf stands beside it too, where it is installed: `perf script` prints the same branches.
 """
 import os
+import shutil
 import struct
+import subprocess
 import sys
 import tempfile
 
@@ -110,6 +112,20 @@ class Runs:
         measure.figures(name, "seconds", took, [], 3)
         print("%-40s %8.3f million %s/s" % ("", units / took / 1e6, unit), flush=True)
 
+    def beside_perf(self, stream):
+        """The time of `show`, and that of `perf script` on the same samples, where perf is there."""
+        if not shutil.which("perf"):
+            print("show, beside perf script: perf isn't installed", flush=True)
+            return
+        data = os.path.join(self.folder, "perf.data")
+        with open(self.path, "wb") as f:
+            f.write(stream)
+        subprocess.run([os.path.join(measure.TOP, "tools", "perf_data"), "803", "-i", self.path, "-o", data], check=True,
+                       stderr=subprocess.DEVNULL)
+        ours, theirs = measure.alternating([([self.binary, "show", "803"], self.path),
+                                            (["perf", "script", "-i", data, "-F", "ip,brstack"], os.devnull)])
+        measure.spread("show, beside perf script", "seconds", ours, [("perf", theirs)])
+
 
 def main(binary, part):
     steps, commands, turns = (max(1, n // part) for n in (10_000_000, 100_000, 100_000))
@@ -126,6 +142,7 @@ def main(binary, part):
         runs.run("%d commands of 0 steps" % len(idle), ["run"], one_task(JUMP, 0, 0, idle), "command", len(idle))
         runs.run("show, from a file", ["show", "803"], stream, "byte", len(stream))
         runs.piped("show, from a pipe", ["show", "803"], stream, "byte", len(stream))
+        runs.beside_perf(stream)
         runs.run("demo %d" % turns, ["demo", str(turns)], b"", "turn", turns, demo(turns))
 
 

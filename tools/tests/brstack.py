@@ -8,8 +8,8 @@ import unittest
 
 sys.dont_write_bytecode = True
 sys.path.insert(0, os.path.dirname(os.path.abspath(__file__)))
-import perf_tests
-from perf_tests import ELF, MODES, QUEENS, TRANSFERS, perf, stored, tool
+import perf_cases
+from perf_cases import ELF, MODES, QUEENS, TRANSFERS, perf, stored, tool
 
 PROFGEN = shutil.which("llvm-profgen-19") or shutil.which("llvm-profgen")
 
@@ -46,7 +46,7 @@ class Text(unittest.TestCase):
         self.assertEqual((done.returncode, done.stdout), (6, b"         80000008\n"))
 
 
-class Perf(perf_tests.WithPerf):
+class Perf(perf_cases.WithPerf):
     def compared(self, data, layout, *words):
         """perf's text of the file that perf_data makes is the text of the tool."""
         made, said = self.path("perf.data"), self.path("samples")
@@ -82,7 +82,7 @@ class Perf(perf_tests.WithPerf):
 
 
 @unittest.skipUnless(PROFGEN, "llvm-profgen isn't installed")
-class Profgen(perf_tests.WithFolder):
+class Profgen(perf_cases.WithFolder):
     def test_it_is_taken(self):
         text, out = self.path("text"), self.path("out")
         self.assertEqual(tool("brstack", "987", ELF, "-i", TRANSFERS, "-o", text).returncode, 0)
@@ -92,7 +92,7 @@ class Profgen(perf_tests.WithFolder):
         self.assertNotIn(b"error", done.stderr)
 
 
-class Refusals(perf_tests.Refusals, unittest.TestCase):
+class Refusals(perf_cases.Refusals, perf_cases.WithFolder):
     TOOL, GOOD = "brstack", ["987"]
 
     def test_arguments(self):

@@ -7,8 +7,8 @@ import unittest
 
 sys.dont_write_bytecode = True
 sys.path.insert(0, os.path.dirname(os.path.abspath(__file__)))
-import perf_tests
-from perf_tests import ELF, MODES, QUEENS, perf, stored, tool
+import perf_cases
+from perf_cases import ELF, MODES, QUEENS, perf, stored, tool
 
 OBJDUMP = "riscv64-unknown-elf-objdump"
 
@@ -72,11 +72,11 @@ class Said(unittest.TestCase):
         self.assertEqual(done.stderr.splitlines()[:4], [start + b"written as of mode U" for start in self.MODES])
 
 
-class Perf(perf_tests.WithPerf):
+class Perf(perf_cases.WithPerf):
     def test_every_field_of_every_sample(self):
         path = self.made("--map", ELF, "--as-user", "-i", MODES)
         lines = perf("script", "-i", path, "--ns", "-F", "pid,tid,time,cpu,period,ip,brstack").splitlines()
-        self.assertEqual([" ".join(line.split()) for line in lines], perf_tests.told(stored(MODES)))
+        self.assertEqual([" ".join(line.split()) for line in lines], perf_cases.told(stored(MODES)))
 
     def test_names(self):
         path = self.made("--map", ELF, "--symbols", self.path("symbols"), "-i", QUEENS)
@@ -117,7 +117,7 @@ class Perf(perf_tests.WithPerf):
                                     for depth, rest, count in stacks))
 
 
-class Refusals(perf_tests.Refusals, unittest.TestCase):
+class Refusals(perf_cases.Refusals, perf_cases.WithFolder):
     TOOL, GOOD = "perf_data", ["987"]
 
     def test_arguments(self):

@@ -8,8 +8,8 @@ import unittest
 
 sys.dont_write_bytecode = True
 sys.path.insert(0, os.path.dirname(os.path.abspath(__file__)))
-import perf_tests
-from perf_tests import ELF, QUEENS, TRANSFERS, stored, tool
+import perf_cases
+from perf_cases import ELF, QUEENS, TRANSFERS, stored, tool
 
 CALL, RETURN, BRANCH = 4 << 20, 6 << 20 | 2, 1 << 20
 MISSED = 1
@@ -59,7 +59,7 @@ class Text(unittest.TestCase):
 
 
 @unittest.skipUnless(PERF2BOLT, "perf2bolt isn't installed")
-class Bolt(perf_tests.WithPerf):
+class Bolt(perf_cases.WithPerf):
     def fdata(self, *words):
         """The lines that perf2bolt makes, sorted."""
         done = subprocess.run([PERF2BOLT, ELF, "-o", self.path("fdata")] + list(words), stdin=subprocess.DEVNULL,
@@ -76,7 +76,7 @@ class Bolt(perf_tests.WithPerf):
             self.assertEqual(self.fdata("-pa", "-p", self.path("profile")), lines)
 
 
-class Refusals(perf_tests.Refusals, unittest.TestCase):
+class Refusals(perf_cases.Refusals, perf_cases.WithFolder):
     TOOL, GOOD = "preagg", ["987"]
 
     def test_arguments(self):

@@ -1,20 +1,16 @@
 """What the tests of perf_data, brstack and preagg share: the stored samples, runs of a tool, and its refusals."""
 import os
 import shutil
-import signal
 import struct
 import subprocess
 import sys
-import tempfile
-import unittest
 
-TESTS = os.path.dirname(os.path.abspath(__file__))
-TOOLS = os.path.dirname(TESTS)
-DATA = os.path.join(TESTS, "data")
+import cases
+
 # The program of examples/recursive_calls in mode U, by gcc 12.2 with -Wl,--emit-relocs; six samples of its calls
 # (MCTRCTL 81), 997 steps apart; ten of which the modes, pids and times were changed, three branches kept, and one has
 # none; and twenty with all transfers but branches not taken (MCTRCTL 1). All have the layout 987.
-ELF, QUEENS, MODES, TRANSFERS = (os.path.join(DATA, name) for name in (
+ELF, QUEENS, MODES, TRANSFERS = (os.path.join(cases.DATA, name) for name in (
     "queens.elf", "queens.samples", "modes.samples", "transfers.samples"))
 TYPES = ["", "COND", "UNCOND", "IND", "CALL", "IND_CALL", "RET"]
 
@@ -25,8 +21,8 @@ def stored(path):
 
 
 def tool(name, *words, input=None):
-    """A tool that ran with some arguments: its status, output and what it said."""
-    return subprocess.run([sys.executable, os.path.join(TOOLS, name)] + list(words), input=input or b"",
+    """A tool that ran with some arguments: its status, output and what it said, in bytes."""
+    return subprocess.run([sys.executable, os.path.join(cases.TOOLS, name)] + list(words), input=input or b"",
                           stdout=subprocess.PIPE, stderr=subprocess.PIPE)
 
 
@@ -51,13 +47,8 @@ def told(data):
     return lines
 
 
-class WithFolder(unittest.TestCase):
+class WithFolder(cases.Case):
     """Tests that write files in a folder of their own."""
-
-    def setUp(self):
-        folder = tempfile.TemporaryDirectory()
-        self.addCleanup(folder.cleanup)
-        self.folder = folder.name
 
     def path(self, name):
         return os.path.join(self.folder, name)
@@ -98,7 +89,7 @@ class Refusals:
         self.refused(2, b"is no layout", "3", *self.GOOD[1:])
         self.refused(2, b"is no layout", "x", *self.GOOD[1:])
         self.refused(2, b"required")
-        self.refused(3, b"cannot read", *self.GOOD, "-i", os.path.join(DATA, "none"))
+        self.refused(3, b"cannot read", *self.GOOD, "-i", os.path.join(cases.DATA, "none"))
 
     def test_help(self):
         done = tool(self.TOOL, "--help")
@@ -106,7 +97,7 @@ class Refusals:
         self.assertIn(b"tools/%s LAYOUT" % self.TOOL.encode(), done.stdout)
 
     def test_closed_ends(self):
-        command = [sys.executable, os.path.join(TOOLS, self.TOOL)] + self.GOOD
+        command = [sys.executable, os.path.join(cases.TOOLS, self.TOOL)] + self.GOOD
         for closing, status, text in (("<&-", 3, b"cannot read"), (">&-", 4, b"cannot write"), ("2>&-", 0, b"")):
             done = subprocess.run(["sh", "-c", '"$@" ' + closing, "sh"] + command, input=b"", stdout=subprocess.PIPE,
                                   stderr=subprocess.PIPE)
@@ -115,13 +106,4 @@ class Refusals:
             self.assertEqual(done.stderr.count(b"\n"), len(text) > 0, done.stderr)
 
     def test_closed_pipe(self):
-        with subprocess.Popen([sys.executable, os.path.join(TOOLS, self.TOOL)] + self.GOOD, stdin=subprocess.PIPE,
-                              stdout=subprocess.PIPE, stderr=subprocess.PIPE) as child:
-            child.stdout.close()
-            try:
-                child.stdin.write(stored(QUEENS) * 60)
-                child.stdin.close()
-            except BrokenPipeError:
-                pass
-            self.assertEqual(child.stderr.read(), b"")
-        self.assertEqual(child.returncode, -signal.SIGPIPE)
+        self.closed_pipe(self.TOOL, *self.GOOD, given=stored(QUEENS) * 60)
