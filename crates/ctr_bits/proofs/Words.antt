@@ -1,12 +1,14 @@
 -- What the shifts and masks of this crate's code compute, over plain variables.
-use Rattle.std.proofs.Common.{◌≡◌, ℕ, ◌+◌, ◌-◌, ◌*◌, ◌/◌, ◌%◌, ◌^◌, ◌<◌, ◌≤◌, bit_and, bit_or, sym, ◌∙◌, ap, inl, inr, arith, add-zero}
-use Rattle.std.proofs.Math.Nat.{mul-sub, mul_comm, pow-le-pow_right, div-eq_of_lt}
-use Rattle.std.proofs.lemmas.Bool.{cases_lt, le-ltb, cond-false}
-use Rattle.std.proofs.lemmas.Nat.{and_mask, or_lt, or_comm, or_shifted, pow-add, pow_pos, shl_whole, mod_below, and_le_r}
+use Rattle.std.proofs.Common.{◌≡◌, ℕ, ℤ, negsuc, suc, ◌+◌, ◌-◌, ◌*◌, ◌/◌, ◌%◌, ◌^◌, ◌<◌, ◌≤◌, bit_and, bit_or, sym, ◌∙◌, ap, inl, inr, arith, add-zero}
+use Rattle.std.proofs.Math.Nat.{mul-sub, mul_comm, mul-lt-mul_of_pos_right, mul-le-mul_right, pow-le-pow_right}
+use Rattle.std.proofs.lemmas.Bool.{cases_lt, le-ltb, lt-ltb, cond-false, cond-true}
+use Rattle.std.proofs.lemmas.Nat.{and_mask, or_lt, pow-add, pow_pos, shl_whole, shr_high, mod_below, and_le_r}
+use Rattle.std.proofs.lemmas.Int.{to_z_pos, of_z-to_z}
 use Rattle.std.proofs.lemmas.Nat.Bits.{ones_shr, bit_at_and, bit_at_or, bit_at_not, bit_at_ones, bit_at_ones_above, bit_at-zero, bit_at-lt, bit_at_above, bit_at_cat_low, bit_at_cat_high, same_from_bits_below}
-use Rattle.std.specs.Int.{bit_at, w64}
+use Rattle.std.specs.Int.{bit_at, w64, cast_signed, cast_unsigned, int_shr}
 use Rattle.ctr_bits.specs.Field.{field_of, with_field}
 use Rattle.ctr_bits.specs.Sext.{extended}
+use Rattle.ctr_bits.specs.SextLaws.{extended_fits}
 use Rattle.ctr_bits.specs.FieldBits.{put_bit_below, put_bit_inside, put_bit_above}
 use Rattle.ctr_bits.specs.FieldLaws.{put_fits}
 
@@ -106,22 +108,56 @@ put_gives word value lo len room small fits =
     (mod_below ((2 ^ 64 - 1) / 2 ^ (64 - len) * 2 ^ lo) (2 ^ 64) (pow_pos 64))
     (mod_below (value * 2 ^ lo) (2 ^ 64) (pow_pos 64))
 
--- the ones above bits, for a number whose sign bit is set
-pub high_ones : (bits : ℕ) → bits ≤ 64 → (2 ^ (64 - bits) - 1) * 2 ^ bits ≡ 2 ^ 64 - 2 ^ bits
-high_ones bits p =
-    let e : 64 - bits + bits ≡ 64 = omega arith in
-    let whole : 2 ^ (64 - bits) * 2 ^ bits ≡ 2 ^ 64 = sym (pow-add 2 (64 - bits) bits) ∙ ap (λ (k : ℕ). 2 ^ k) e in
-    mul_comm (2 ^ (64 - bits) - 1) (2 ^ bits) ∙ mul-sub (2 ^ bits) (2 ^ (64 - bits)) 1
-    ∙ omega (arith, mul_comm (2 ^ bits) (2 ^ (64 - bits)), whole)
+-- a number moved up to the top of a word and back, as a signed word, has its sign bit in all bits above
+pub back_below : (value bits above : ℕ) → bits - 1 + above ≡ 63 → value < 2 ^ (bits - 1)
+    → cast_unsigned w64 (int_shr (cast_signed w64 (value * 2 ^ above)) above) ≡ value
+back_below value bits above room low =
+    let half : 2 ^ (bits - 1) * 2 ^ above ≡ 2 ^ 63 = sym (pow-add 2 (bits - 1) above) ∙ ap (λ (k : ℕ). 2 ^ k) room in
+    let small : value * 2 ^ above < 2 ^ 63 = rw (sym half) (mul-lt-mul_of_pos_right low (pow_pos above)) in
+    ap (λ (z : ℤ). cast_unsigned w64 (int_shr z above)) (to_z_pos w64 (value * 2 ^ above) small)
+    ∙ ap (λ (n : ℕ). n / 2 ^ above) (sym (add-zero (value * 2 ^ above)))
+    ∙ shr_high value above 0 (pow_pos above)
 
-pub negative_is : (value bits : ℕ) → 1 ≤ bits → bits ≤ 64 → value < 2 ^ bits → (value / 2 ^ (bits - 1) ≡ 0 → ⊥)
-    → bit_or value (2 ^ 64 - 1 - (2 ^ 64 - 1) / 2 ^ (64 - bits)) ≡ extended bits value
-negative_is value bits some room fits signed =
+pub back_above : (value bits above : ℕ) → bits + above ≡ 64 → 1 ≤ bits → 2 ^ (bits - 1) ≤ value → value < 2 ^ bits
+    → cast_unsigned w64 (int_shr (cast_signed w64 (value * 2 ^ above)) above) ≡ value + (2 ^ 64 - 2 ^ bits)
+back_above value bits above room some high fits =
     let two : 0 < 2 = omega arith in
-    let bound : 2 ^ bits ≤ 2 ^ 64 = pow-le-pow_right two room in
-    let not : 2 ^ 64 - 1 - (2 ^ 64 - 1) / 2 ^ (64 - bits) ≡ (2 ^ (64 - bits) - 1) * 2 ^ bits = omega (arith, ones_of bits room, high_ones bits room, bound, pow_pos bits) in
-    let sum : bit_or value ((2 ^ (64 - bits) - 1) * 2 ^ bits) ≡ (2 ^ (64 - bits) - 1) * 2 ^ bits + value =
-    or_comm value ((2 ^ (64 - bits) - 1) * 2 ^ bits) ∙ or_shifted (2 ^ (64 - bits) - 1) bits value fits in
-    let high : 2 ^ (bits - 1) ≤ value = elim (cases_lt value (2 ^ (bits - 1))) [ inl p ↦ absurd (signed (div-eq_of_lt p)) | inr p ↦ p ] in
-    ap (λ (n : ℕ). bit_or value n) not ∙ sum ∙ omega (arith, high_ones bits room)
-    ∙ sym (cond-false _ value (value + (2 ^ 64 - 2 ^ bits)) (le-ltb value (2 ^ (bits - 1)) high))
+    let within : bits ≤ 64 = omega (arith, room) in
+    let below : bits - 1 + above ≡ 63 = omega (arith, room, some) in
+    let bound : 2 ^ bits ≤ 2 ^ 64 = pow-le-pow_right two within in
+    let moved = value * 2 ^ above in
+    let rest = 2 ^ bits - (value + 1) in
+    let full : 2 ^ bits * 2 ^ above ≡ 2 ^ 64 = sym (pow-add 2 bits above) ∙ ap (λ (k : ℕ). 2 ^ k) room in
+    let half : 2 ^ (bits - 1) * 2 ^ above ≡ 2 ^ 63 = sym (pow-add 2 (bits - 1) above) ∙ ap (λ (k : ℕ). 2 ^ k) below in
+    let large : 2 ^ 63 ≤ moved = rw (sym half) (mul-le-mul_right (2 ^ above) high) in
+    let small : moved < 2 ^ 64 = rw (sym full) (mul-lt-mul_of_pos_right fits (pow_pos above)) in
+    let next : (value + 1) * 2 ^ above ≡ moved + 2 ^ above = omega arith in
+    let left : rest * 2 ^ above ≡ 2 ^ 64 - (moved + 2 ^ above) =
+    mul_comm rest (2 ^ above) ∙ mul-sub (2 ^ above) (2 ^ bits) (value + 1)
+    ∙ omega (arith, mul_comm (2 ^ above) (2 ^ bits), mul_comm (2 ^ above) (value + 1), full, next) in
+    let one_more : value + 1 ≤ 2 ^ bits = omega (arith, fits) in
+    let fits_still : (value + 1) * 2 ^ above ≤ 2 ^ 64 = rw (sym full) (mul-le-mul_right (2 ^ above) one_more) in
+    let split : 2 ^ 64 - suc moved ≡ rest * 2 ^ above + (2 ^ above - 1) = omega (arith, left, next, fits_still, pow_pos above) in
+    let read : cast_signed w64 moved ≡ negsuc (2 ^ 64 - suc moved) = cond-false _ _ _ (le-ltb moved (2 ^ 63) large) in
+    ap (λ (z : ℤ). cast_unsigned w64 (int_shr z above)) read
+    ∙ ap (λ (n : ℕ). 2 ^ 64 - suc (n / 2 ^ above)) split
+    ∙ ap (λ (n : ℕ). 2 ^ 64 - suc n) (shr_high rest above (2 ^ above - 1) (omega (arith, pow_pos above)))
+    ∙ omega (arith, fits, bound)
+
+pub back_again : (value bits : ℕ) → 1 ≤ bits → bits ≤ 64 → value < 2 ^ bits
+    → cast_unsigned w64 (int_shr (cast_signed w64 (value * 2 ^ (64 - bits) % 2 ^ 64)) (64 - bits)) ≡ extended bits value
+back_again value bits some room fits =
+    let above = 64 - bits in
+    let whole = moved_whole value above bits (omega arith) fits in
+    ap (λ (n : ℕ). cast_unsigned w64 (int_shr (cast_signed w64 n) above)) whole
+    ∙ elim (cases_lt value (2 ^ (bits - 1))) [
+      | inl p ↦ back_below value bits above (omega arith) p ∙ sym (cond-true _ value (value + (2 ^ 64 - 2 ^ bits)) (lt-ltb value (2 ^ (bits - 1)) p))
+      | inr p ↦ back_above value bits above (omega arith) some p fits ∙ sym (cond-false _ value (value + (2 ^ 64 - 2 ^ bits)) (le-ltb value (2 ^ (bits - 1)) p))
+    ]
+
+-- the code's word, whose signed reading is taken and given back once more
+pub sext_is : (value bits : ℕ) → 1 ≤ bits → bits ≤ 64 → value < 2 ^ bits
+    → cast_unsigned w64 (cast_signed w64 (cast_unsigned w64 (int_shr (cast_signed w64 (value * 2 ^ (64 - bits) % 2 ^ 64)) (64 - bits)))) ≡ extended bits value
+sext_is value bits some room fits =
+    ap (λ (n : ℕ). cast_unsigned w64 (cast_signed w64 n)) (back_again value bits some room fits)
+    ∙ of_z-to_z w64 (extended bits value) (extended_fits bits value room fits)

@@ -8,9 +8,6 @@ pub fn sext(value: u64, bits: u32) -> u64
     requires fits { value < 2 ^ bits }
     ensures { result ≡ extended bits value }
 {
-    if value >> (bits - 1) == 0 {
-        value
-    } else {
-        value | !(u64::MAX >> (64 - bits))
-    }
+    let above = 64 - bits;
+    ((value << above).cast_signed() >> above).cast_unsigned()
 }
