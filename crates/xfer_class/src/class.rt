@@ -7,6 +7,7 @@ use rv_decode::Instr;
 
 /// The type of the transfer that an instruction makes, or `None` where it is neither a jump, a branch, MRET nor SRET.
 /// `taken` says whether a branch was taken, and matters for nothing else.
+#[inline(always)]
 pub fn class_of(instr: Instr, taken: bool) -> Option<XferType>
     ensures some { (t : XferType) → (result ≡ Some t) ↔ HasType instr taken t }
     ensures none { (result ≡ None) ↔ HasNoType instr }
@@ -23,24 +24,27 @@ pub fn class_of(instr: Instr, taken: bool) -> Option<XferType>
 }
 
 // Whether software keeps return addresses in the register: x1, or x5 as the alternate.
+#[inline(always)]
 fn is_link(register: u8) -> bool
     ensures { result ≡ link register }
 {
     register == 1 || register == 5
 }
 
+#[inline(always)]
 fn type_of_jal(rd: u8) -> XferType
     ensures { result ≡ jal_type rd }
 {
-    if is_link(rd) {
-        XferType::DirectCall
-    } else if rd == 0 {
+    if rd == 0 {
         XferType::DirectJump
+    } else if is_link(rd) {
+        XferType::DirectCall
     } else {
         XferType::DirectLinkJump
     }
 }
 
+#[inline(always)]
 fn type_of_jalr(rd: u8, rs1: u8) -> XferType
     ensures { result ≡ jalr_type rd rs1 }
 {

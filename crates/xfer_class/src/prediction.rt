@@ -10,6 +10,7 @@ use rv_decode::Instr;
 /// with a negative offset is predicted taken, any other branch not taken (an offset of 0 is
 /// forward), and all other transfers are predicted rightly. `taken` says whether a branch was
 /// taken, and matters for nothing else.
+#[inline(always)]
 pub fn missed(instr: Instr, taken: bool) -> bool
     ensures branch { result ≡ true → type_of instr taken ≡ Some (cond taken Taken NotTaken) }
     ensures value { result ≡ missed_of instr taken }
@@ -21,6 +22,7 @@ pub fn missed(instr: Instr, taken: bool) -> bool
 }
 
 // Whether the offset is negative, as 64 bits in two's complement.
+#[inline(always)]
 fn is_backward(off: u64) -> bool
     ensures { result ≡ is_backward off }
 {
