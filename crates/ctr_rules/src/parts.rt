@@ -1,4 +1,5 @@
-ghost use Rattle.std.specs.Prelude.{◌≡◌};
+ghost use Rattle.std.specs.Prelude.{◌≡◌, ◌<◌};
+ghost use Rattle.ctr_csrs.specs.ControlFigure.{place_of};
 ghost use Rattle.ctr_csrs.specs.Modes.{is_virtual};
 ghost use Rattle.ctr_rules.specs.Enabled.{enables, mode_bit, trap_enabled};
 ghost use Rattle.ctr_rules.specs.FilterBits.{filter_of, filter_bit, lets_in, inhibits};
@@ -11,6 +12,7 @@ use xfer_class::XferType;
 
 // Whether transfers within the mode are recorded.
 #[tactic(auto, using(crate::proofs::BitLemmas::enabled_by_bit))]
+#[inline(always)]
 pub(crate) fn is_enabled(mode: Mode, m: Control, vs: Control) -> bool
     ensures { result ≡ enables m vs mode }
 {
@@ -18,7 +20,22 @@ pub(crate) fn is_enabled(mode: Mode, m: Control, vs: Control) -> bool
     word.on(mode_bit(mode))
 }
 
+// Whether transfers within the mode after a transfer are recorded, where this is known of the mode
+// before it. Most transfers stay in their mode.
+#[inline(always)]
+pub(crate) fn is_target_enabled(transfer: Transfer, from: bool, m: Control, vs: Control) -> bool
+    requires { from ≡ enables m vs transfer.from }
+    ensures { result ≡ enables m vs transfer.to }
+{
+    if transfer.to == transfer.from {
+        from
+    } else {
+        is_enabled(transfer.to, m, vs)
+    }
+}
+
 // The bit of a control register that enables the mode. Without a jump for each mode.
+#[inline(always)]
 fn mode_bit(mode: Mode) -> ControlBit
     ensures { result ≡ mode_bit mode }
 {
@@ -29,13 +46,18 @@ fn mode_bit(mode: Mode) -> ControlBit
     }
 }
 
+#[inline(always)]
 fn is_guest(mode: Mode) -> bool
     ensures { result ≡ is_virtual mode }
 {
-    matches!(mode, Mode::Vs | Mode::Vu)
+    match mode {
+        Mode::M | Mode::S | Mode::U => false,
+        Mode::Vs | Mode::Vu => true,
+    }
 }
 
 // The register whose filter bits and RASEMU count.
+#[inline(always)]
 pub(crate) fn filter_register(transfer: Transfer, m: Control, vs: Control) -> Control
     ensures { result ≡ filter_of transfer m vs }
 {
@@ -46,6 +68,7 @@ pub(crate) fn filter_register(transfer: Transfer, m: Control, vs: Control) -> Co
     }
 }
 
+#[inline(always)]
 pub(crate) fn is_of_a_trap(kind: XferType) -> bool
     ensures { result ≡ is_trap kind }
 {
@@ -54,39 +77,29 @@ pub(crate) fn is_of_a_trap(kind: XferType) -> bool
 
 // Whether the filter register keeps the transfer type out.
 #[tactic(auto, using(crate::proofs::BitLemmas::inhibited_by_bit))]
+#[inline(always)]
 pub(crate) fn is_inhibited(filter: Control, kind: XferType) -> bool
     ensures { result ≡ inhibits filter kind }
 {
-    let set = filter.on(filter_bit(kind));
+    let set = (filter.word() >> filter_place(kind)) % 2 == 1;
     if lets_in(kind) { !set } else { set }
 }
 
 // Whether the filter bit of the transfer type lets it in where it is set: NTBREN alone.
+#[inline(always)]
 fn lets_in(kind: XferType) -> bool
     ensures { result ≡ lets_in kind }
 {
     matches!(kind, XferType::NotTaken)
 }
 
-// The filter bit of a transfer type.
-fn filter_bit(kind: XferType) -> ControlBit
-    ensures { result ≡ filter_bit kind }
+// Where the filter bit of a transfer type stands: at 32 and the type's number.
+#[inline(always)]
+fn filter_place(kind: XferType) -> u32
+    ensures place { result ≡ place_of (filter_bit kind) }
+    ensures within { result < 64 }
 {
-    match kind {
-        XferType::Exception => ControlBit::Excinh,
-        XferType::Interrupt => ControlBit::Intrinh,
-        XferType::TrapReturn => ControlBit::Tretinh,
-        XferType::NotTaken => ControlBit::Ntbren,
-        XferType::Taken => ControlBit::Tkbrinh,
-        XferType::IndirectCall => ControlBit::Indcallinh,
-        XferType::DirectCall => ControlBit::Dircallinh,
-        XferType::IndirectJump => ControlBit::Indjmpinh,
-        XferType::DirectJump => ControlBit::Dirjmpinh,
-        XferType::Swap => ControlBit::Corswapinh,
-        XferType::Return => ControlBit::Retinh,
-        XferType::IndirectLinkJump => ControlBit::Indljmpinh,
-        XferType::DirectLinkJump => ControlBit::Dirljmpinh,
-    }
+    u32::from(kind.code()) + 32
 }
 
 // Whether a trap out of an enabled mode into a disabled one is recorded.
@@ -121,6 +134,7 @@ fn is_freeze_bit_set(to: Mode, m: Control, vs: Control, bit: ControlBit) -> bool
 }
 
 // Whether the transfer sets FROZEN. Most transfers are neither a breakpoint nor an overflow.
+#[inline(always)]
 pub(crate) fn is_freeze(transfer: Transfer, m: Control, vs: Control) -> bool
     ensures { result ≡ freezes transfer m vs }
 {

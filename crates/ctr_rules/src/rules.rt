@@ -8,6 +8,7 @@ ghost use Rattle.std.specs.Prelude.{ℕ, Bool};
 
 use crate::parts::{
     filter_register, is_enabled, is_external_enabled, is_freeze, is_inhibited, is_of_a_trap,
+    is_target_enabled,
 };
 use crate::transfer::{Act, Record, Transfer};
 use ctr_csrs::{Control, ControlBit};
@@ -46,7 +47,7 @@ fn recorded(transfer: Transfer, m: Control, vs: Control) -> Act
     ensures { result ≡ act_by (row_of (view_of transfer m vs)) transfer }
 {
     let from = is_enabled(transfer.from, m, vs);
-    let to = is_enabled(transfer.to, m, vs);
+    let to = is_target_enabled(transfer, from, m, vs);
     if !from && !to {
         // Most transfers where nothing is recorded end here.
         return Act::Nothing;
@@ -81,6 +82,7 @@ fn recorded(transfer: Transfer, m: Control, vs: Control) -> Act
 }
 
 // What a transfer within enabled modes does under return-stack emulation.
+#[inline(always)]
 fn emulated(transfer: Transfer) -> Act
     ensures { result ≡ emulated_act transfer }
 {
@@ -93,6 +95,7 @@ fn emulated(transfer: Transfer) -> Act
     }
 }
 
+#[inline(always)]
 fn record_of(transfer: Transfer, source: u64, target: u64) -> Record
     ensures { result ≡ record_of transfer source target }
 {
