@@ -12,6 +12,7 @@ use crate::store::CtrStore;
 use ctr_csrs::Depth;
 
 /// Makes the call of an event.
+#[inline(always)]
 pub fn perform<B: CtrStore>(store: &mut B, event: Event)
     requires { CanTake (B.means store.old) event }
     ensures { B.means store.new ≡ after (B.means store.old) event }

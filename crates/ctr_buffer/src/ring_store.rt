@@ -7,6 +7,7 @@ use ctr_csrs::{Depth, entries};
 use std::marker::Model;
 
 // The physical entry that holds entry `i` of a ring of this size.
+#[inline(always)]
 fn place(size: u16, wrptr: u8, i: u16) -> usize
     requires pointer_within { wrptr < size }
     requires index_within { i < size }
@@ -22,6 +23,7 @@ fn place(size: u16, wrptr: u8, i: u16) -> usize
 }
 
 // The pointer after a push.
+#[inline(always)]
 fn stepped(size: u16, wrptr: u8) -> u8
     requires within { wrptr < size }
     requires small { size ≤ 256 }
@@ -65,6 +67,7 @@ impl CtrStore for RingStore {
         }
     }
 
+    #[inline(always)]
     fn depth(&self) -> Depth {
         self.depth
     }
@@ -73,16 +76,19 @@ impl CtrStore for RingStore {
         self.wrptr
     }
 
+    #[inline(always)]
     fn slot(&self, i: u16) -> Slot {
         self.ring[place(entries(self.depth), self.wrptr, i)]
     }
 
+    #[inline(always)]
     fn set_slot(&mut self, i: u16, s: Slot) {
         self.ring[place(entries(self.depth), self.wrptr, i)] = s;
     }
 
+    #[inline(always)]
     fn push(&mut self, s: Slot) {
-        self.ring[usize::from(self.wrptr)] = s;
+        self.ring[usize::from(self.wrptr)].become_slot(s);
         self.wrptr = stepped(entries(self.depth), self.wrptr);
     }
 

@@ -95,6 +95,7 @@ impl Slot {
     }
 
     /// A part of the slot.
+    #[inline(always)]
     pub fn part(self, part: Part) -> u64
         ensures value { result ≡ part_of part self }
         ensures fits { FitsPart part result }
@@ -107,6 +108,7 @@ impl Slot {
     }
 
     /// The slot with one part replaced.
+    #[inline(always)]
     pub fn with_part(self, part: Part, value: u64) -> Slot
         requires { FitsPart part value }
         ensures { result ≡ with_part self part value }
@@ -125,6 +127,16 @@ impl Slot {
                 ..self
             },
         }
+    }
+
+    // Becomes another slot, number by number: an assignment writes the bytes between them too.
+    #[inline(always)]
+    pub(crate) fn become_slot(&mut self, other: Slot)
+        ensures { self.new ≡ other }
+    {
+        self.source = other.source;
+        self.target = other.target;
+        self.kind = other.kind;
     }
 
     // The slot with V cleared, as a return leaves it under return-stack emulation.
