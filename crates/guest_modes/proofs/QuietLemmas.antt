@@ -1,5 +1,6 @@
 -- Where no interrupt is pending and enabled, none is taken.
-use Rattle.std.proofs.Common.{ℕ, ◌≡◌, ◌/◌, ◌%◌, ◌^◌, true, false, ◌&&◌, bit_and, min, None, List, [], ◌∷◌, inl, inr, refl, sym, ◌∙◌, ap, arith}
+use Rattle.std.proofs.Common.{ℕ, ◌≡◌, ◌/◌, ◌%◌, ◌^◌, true, false, ◌&&◌, bit_and, min, nat_eq, None, List, [], ◌∷◌, inl, inr, refl, sym, ◌∙◌, ap, arith}
+use Rattle.std.specs.Bool.{OnTrue}
 use Rattle.std.proofs.lemmas.Bool.{cases_Bool, eqb-true}
 use Rattle.std.proofs.lemmas.Nat.Bits.{bit_at_and, bit_at-zero}
 use Rattle.std.specs.Int.{bit_at}
@@ -35,3 +36,9 @@ none_first p from to (n ∷ ns) none = rw (quiet p from n none) (none_first p fr
 pub none_picked : (p : Priv) (from : Mode) → bit_and p.mip p.mie ≡ 0 → picked p from ≡ None
 none_picked p from none =
     rw (none_first p from M interrupt_order none, none_first p from S interrupt_order none, none_first p from Vs interrupt_order none) refl
+
+pub none_where_quiet : (p : Priv) (a b : ℕ) → a ≡ p.mip → b ≡ p.mie → OnTrue (nat_eq (bit_and a b) 0) ((mode : Mode) → picked p mode ≡ None)
+none_where_quiet p a b is_mip is_mie = elim (cases_Bool (nat_eq (bit_and a b) 0)) [
+  | inl on ↦ rw on (λ (mode : Mode). none_picked p mode (rw (sym is_mip, sym is_mie) (eqb-true (bit_and a b) 0 on)))
+  | inr off ↦ rw off tt
+]

@@ -1,5 +1,6 @@
-ghost use Rattle.std.specs.Bool.{OnTrue};
-ghost use Rattle.std.specs.Prelude.{◌≡◌, ℕ, ◌<◌, ◌↔◌, ◌&&◌, IsTrue, IsNone, IfSome, bit_and};
+ghost use Rattle.std.specs.Bool.{OnTrue, OnFalse};
+ghost use Rattle.std.specs.Prelude.{◌≡◌, ◌≢◌, ℕ, None, ◌<◌, ◌↔◌, ◌&&◌, IsTrue, IsNone, IfSome, bit_and};
+ghost use Rattle.ctr_csrs.specs.declared.mode.Mode.{Mode};
 ghost use Rattle.guest_modes.specs.Interrupts.{allows, is_candidate, first_for, picked, IsFirst, NoCandidate};
 ghost use Rattle.guest_modes.specs.Numbers.{is_in};
 ghost use Rattle.guest_modes.specs.Traps.{interrupt_order, interrupt_taker, is_same, is_cause, is_trap_between};
@@ -45,9 +46,13 @@ fn first_of_all(p: &Priv, mode: Mode) -> Option<u8>
     first_taken_by(p, mode, Mode::Vs)
 }
 
-// Whether no interrupt is pending and enabled, as at nearly every step.
-fn is_quiet(p: &Priv) -> bool
-    ensures { OnTrue result (bit_and p.now.mip p.now.mie ≡ 0) }
+/// Whether no interrupt is both pending and enabled, as at nearly every step: then none is taken, in
+/// no mode (Privileged Architecture, "Machine Interrupt Registers").
+#[inline(always)]
+pub fn is_quiet(p: &Priv) -> bool
+    ensures yes { OnTrue result (bit_and p.now.mip p.now.mie ≡ 0) }
+    ensures no { OnFalse result (bit_and p.now.mip p.now.mie ≢ 0) }
+    ensures none { OnTrue result ((mode : Mode) → picked p.now mode ≡ None) }
 {
     p.mip.get() & p.mie.get() == 0
 }

@@ -13,7 +13,7 @@ pub use causes::{
 pub use entering::enter_trap;
 pub use facts::{fact_laws, priv_facts};
 pub use gating::{CsrFault, gate};
-pub use interrupts::{is_interrupt, pick_interrupt};
+pub use interrupts::{is_interrupt, is_quiet, pick_interrupt};
 pub use laws::{interrupt_laws, privilege_laws, status_laws};
 pub use numbered::{is_register, read_csr, write_csr};
 pub use registers::Priv;
