@@ -61,6 +61,7 @@ impl<B: CtrStore> CtrUnit<B> {
     }
 
     /// What a register reads as, with the rights of M. The registers of an entry want a select from 0x200 to 0x2FF.
+    #[inline(always)]
     pub fn get(&self, reg: PortReg) -> u64
         requires { Selects reg self.now }
         ensures value { result ≡ read reg self.now }
@@ -81,6 +82,7 @@ impl<B: CtrStore> CtrUnit<B> {
     }
 
     /// Writes a register with the rights of M. The registers of an entry want a select from 0x200 to 0x2FF.
+    #[inline(always)]
     pub fn set(&mut self, reg: PortReg, value: u64)
         requires { Selects reg self.old }
         ensures { self.new ≡ written reg value self.old }
@@ -98,6 +100,7 @@ impl<B: CtrStore> CtrUnit<B> {
     }
 
     /// Makes an event of the record buffer happen.
+    #[inline(always)]
     pub fn perform(&mut self, event: Event)
         requires { CanTake self.old.stack event }
         ensures { self.new ≡ performed self.old event }
@@ -125,6 +128,7 @@ impl<B: CtrStore> CtrUnit<B> {
     }
 
     // The entry that a select names.
+    #[inline(always)]
     fn entry(&self, select: u16) -> Slot
         ensures { result ≡ entry_named self.now.stack select }
     {
@@ -141,6 +145,7 @@ impl<B: CtrStore> CtrUnit<B> {
     }
 
     // A part of the entry that a select names.
+    #[inline(always)]
     pub(crate) fn part(&self, select: u16, part: Part) -> u64
         ensures is { result ≡ part_of part (entry_named self.now.stack select) }
         ensures fits { FitsPart part result }
@@ -149,6 +154,7 @@ impl<B: CtrStore> CtrUnit<B> {
     }
 
     // The event that a write of a register is.
+    #[inline(always)]
     fn event(&self, reg: PortReg, value: u64) -> Option<Event>
         ensures is { result ≡ event_of reg self.now value }
         ensures fits { CanTakeAny self.now.stack result }
@@ -190,6 +196,7 @@ impl<B: CtrStore> CtrUnit<B> {
     }
 
     // The event of a write to a part of the entry that a select names.
+    #[inline(always)]
     pub(crate) fn part_event(&self, select: u16, part: Part, value: u64) -> Option<Event>
         ensures is { result ≡ part_written self.now.stack select part value }
         ensures fits { CanTakeAny self.now.stack result }
@@ -203,6 +210,7 @@ impl<B: CtrStore> CtrUnit<B> {
     }
 
     // What a write of a register changes besides the record buffer.
+    #[inline(always)]
     fn change(&mut self, reg: PortReg, value: u64)
         ensures { self.new ≡ changed reg self.old value }
     {
@@ -215,6 +223,7 @@ impl<B: CtrStore> CtrUnit<B> {
         }
     }
 
+    #[inline(always)]
     pub(crate) fn perform_any(&mut self, event: Option<Event>)
         requires { CanTakeAny self.old.stack event }
         ensures { self.new ≡ record self.old { stack = after_any self.old.stack event } }
@@ -226,6 +235,7 @@ impl<B: CtrStore> CtrUnit<B> {
 }
 
 // What a part keeps of a value that is written to it.
+#[inline(always)]
 fn kept(part: Part, value: u64) -> u64
     ensures is { result ≡ part_kept part value }
     ensures fits { FitsPart part result }

@@ -24,6 +24,7 @@ pub(crate) fn read_depth<P: CtrPort>(port: &mut P) -> Depth
 }
 
 // Selects entry `i` and reads its parts, in 4 accesses.
+#[inline(always)]
 pub(crate) fn read_entry<P: CtrPort>(port: &mut P, i: u16) -> Slot
     requires room { P.count port.old ≤ 2 ^ 62 + 2000 }
     requires within { i < 256 }
@@ -44,6 +45,7 @@ pub(crate) fn read_entry<P: CtrPort>(port: &mut P, i: u16) -> Slot
 }
 
 // Selects entry `i` and writes its parts, in 4 accesses.
+#[inline(always)]
 pub(crate) fn write_entry<P: CtrPort>(port: &mut P, i: u16, slot: Slot)
     requires room { P.count port.old ≤ 2 ^ 62 + 2000 }
     requires within { i < size_of (P.unit port.old).stack }
@@ -60,6 +62,7 @@ pub(crate) fn write_entry<P: CtrPort>(port: &mut P, i: u16, slot: Slot)
 }
 
 // Writes a part of entry `i`, which is selected, in 1 access.
+#[inline(always)]
 fn write_part<P: CtrPort>(port: &mut P, i: u16, part: Part, value: u64)
     requires room { P.count port.old < 2 ^ 63 }
     requires selected { (P.unit port.old).select ≡ 512 + i }
