@@ -18,6 +18,7 @@ use perf_sample::Buffer;
 use rv_hart::{Hart, Store};
 
 // One step of a task on a hart.
+#[inline(always)]
 fn step(hart: &mut Hart<Store>, task: &mut Task, pending: u64)
     requires pending { IsWithin 0x2EEE pending }
     requires hart_room { hart.old.steps ≤ 2 ^ 62 }

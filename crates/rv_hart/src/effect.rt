@@ -20,6 +20,7 @@ use rv_decode::{Instr, Width};
 use xfer_class::{class_of, missed};
 
 // The next instruction comes.
+#[inline(always)]
 fn next(core: &Core) -> Outcome
     ensures outcome { result ≡ Outcome.Goes None (plus core.now.pc 4) }
     ensures sound { IsSound result }
@@ -28,6 +29,7 @@ fn next(core: &Core) -> Outcome
 }
 
 // Writes a value to rd.
+#[inline(always)]
 fn give(core: &mut Core, rd: u8, value: u64) -> Outcome
     requires { rd < 32 }
     ensures core { core.new ≡ put core.old rd value }
@@ -54,6 +56,7 @@ fn jump_of(instr: Instr, taken: bool) -> Option<Jump>
 }
 
 // Jumps to a target, with the address after the jump in rd.
+#[inline(always)]
 fn jump(core: &mut Core, jump: Option<Jump>, rd: u8, target: u64) -> Outcome
     requires rd { rd < 32 }
     requires jump { IfSome jump IsJump }
@@ -69,6 +72,7 @@ fn jump(core: &mut Core, jump: Option<Jump>, rd: u8, target: u64) -> Outcome
 }
 
 // Branches, or not.
+#[inline(always)]
 fn branch(core: &Core, taken: bool, jump: Option<Jump>, target: u64) -> Outcome
     requires { IfSome jump IsJump }
     ensures effect { (bytes : List ℕ) → record { core = core.now; bytes = bytes; outcome = result } ≡ branches taken jump target core.now bytes }
@@ -83,6 +87,7 @@ fn branch(core: &Core, taken: bool, jump: Option<Jump>, target: u64) -> Outcome
     Outcome::Goes(jump, target)
 }
 
+#[inline(always)]
 fn load(core: &mut Core, mem: &TaskMem, width: Width, signed: bool, rd: u8, address: u64) -> Outcome
     requires { rd < 32 }
     ensures effect { record { core = core.new; bytes = mem.now; outcome = result } ≡ loads width signed rd address core.old mem.now }
@@ -101,6 +106,7 @@ fn load(core: &mut Core, mem: &TaskMem, width: Width, signed: bool, rd: u8, addr
     }
 }
 
+#[inline(always)]
 fn store(core: &Core, mem: &mut TaskMem, width: Width, value: u64, address: u64) -> Outcome
     ensures effect { record { core = core.now; bytes = mem.new; outcome = result } ≡ stores width value address core.now mem.old }
     ensures sound { IsSound result }
@@ -159,6 +165,7 @@ fn sret(mode: Mode, word: u32) -> Outcome
 
 /// Executes an instruction, whose word is given too, but for the accesses to registers and SCTRCLR, which have no effect
 /// here.
+#[inline(always)]
 pub(crate) fn execute(core: &mut Core, mem: &mut TaskMem, instr: Instr, word: u32) -> Outcome
     requires { NumbersFit instr }
     ensures effect { record { core = core.new; bytes = mem.new; outcome = result } ≡ effect instr word core.old mem.old }

@@ -1,4 +1,4 @@
-ghost use Rattle.std.specs.Prelude.{◌≡◌, ◌+◌, ◌^◌, ◌<◌};
+ghost use Rattle.std.specs.Prelude.{◌≡◌, ◌+◌, ◌^◌, ◌<◌, bit_or};
 ghost use Rattle.std.specs.Bool.{OnTrue, OnFalse};
 ghost use Rattle.guest_modes.specs.Words.{IsWithin};
 ghost use Rattle.rv_hart.specs.Step.{next};
@@ -9,6 +9,7 @@ use crate::memory::TaskMem;
 use crate::processor::Core;
 use ctr_buffer::CtrStore;
 use ctr_csrs::Depth;
+use guest_modes::Priv;
 use indirect_regs::{CtrPort, CtrUnit, PortReg};
 use std::marker::Model;
 
@@ -69,15 +70,16 @@ impl<B: CtrStore> Hart<B> {
     /// interrupt or executes one instruction (RISC-V Unprivileged ISA; Privileged Architecture, "Machine Interrupt
     /// Registers" and "Machine Trap Delegation Registers"; Control Transfer Records 1.0). `pending` has bits of 0x2EEE
     /// alone, the interrupts 1, 2, 3, 5, 6, 7, 9, 10, 11 and 13, and `steps` is below 2^63.
+    #[inline(always)]
     pub fn step(&mut self, mem: &mut TaskMem, pending: u64)
         requires pending { IsWithin 0x2EEE pending }
         requires steps { self.old.steps < 2 ^ 63 }
         ensures state { machine_of self.new mem.new ≡ next pending (machine_of self.old mem.old) }
         ensures rest { self.new ≡ record self.old { core = self.new.core; unit = self.new.unit; steps = self.old.steps + 1 } }
     {
-        self.core.csrs.raise(pending);
-        self.make(mem);
+        raise(&mut self.core.csrs, pending);
         self.steps += 1;
+        self.make(mem);
     }
 
     /// Exchanges the core with the given one: no step, no access, and no register of control transfer records but
@@ -129,11 +131,13 @@ impl<B: CtrStore> CtrPort for Hart<B> {
 
     ghost same_then = { same_then };
 
+    #[inline(always)]
     fn get(&mut self, reg: PortReg) -> u64 {
         self.count += 1;
         self.unit.get(reg)
     }
 
+    #[inline(always)]
     fn set(&mut self, reg: PortReg, value: u64) {
         self.count += 1;
         self.unit.set(reg, value);
@@ -146,5 +150,16 @@ impl<B: CtrStore> CtrPort for Hart<B> {
 
     fn accesses(&self) -> u64 {
         self.count
+    }
+}
+
+// Makes interrupts pending, which at most steps are none.
+#[inline(always)]
+fn raise(csrs: &mut Priv, pending: u64)
+    requires { IsWithin 0x2EEE pending }
+    ensures { csrs.new ≡ record csrs.old { mip = bit_or csrs.old.mip pending } }
+{
+    if pending != 0 {
+        csrs.raise(pending);
     }
 }

@@ -49,16 +49,16 @@ impl TaskMem {
     }
 
     // The place of so many bytes from an address on, where they lie wholly in it.
+    #[inline(always)]
     pub(crate) fn place(&self, address: u64, count: u64) -> Option<usize>
         requires { count ≤ 8 }
         ensures place { result ≡ place_of (length self.now) address count }
         ensures within { IfSome result (λ at. at + count ≤ length self.now) }
     {
-        if address < BASE {
-            return None;
-        }
-        let at = address - BASE;
-        if at + count > self.bytes.len() as u64 {
+        let size = self.bytes.len() as u64;
+        // An address below the memory is far above it so.
+        let at = address.wrapping_sub(BASE);
+        if size < count || at > size - count {
             return None;
         }
         Some(at as usize)
@@ -74,6 +74,7 @@ impl TaskMem {
     }
 
     // The bytes at a place as a number, the lowest first.
+    #[inline(always)]
     fn number(&self, width: Width, at: usize) -> u64
         requires { at + bytes_of width ≤ length self.now }
         ensures value { result ≡ number_at width self.now at }
@@ -89,6 +90,7 @@ impl TaskMem {
     }
 
     // The bytes at a place as a register takes them.
+    #[inline(always)]
     pub(crate) fn load(&self, width: Width, signed: bool, at: usize) -> u64
         requires { at + bytes_of width ≤ length self.now }
         ensures { result ≡ loaded width signed self.now at }
@@ -102,6 +104,7 @@ impl TaskMem {
     }
 
     // Writes some bytes at a place.
+    #[inline(always)]
     fn put(&mut self, at: usize, bytes: &[u8])
         requires { at + length bytes.now ≤ length self.old }
         ensures { self.new ≡ take at self.old ++ (bytes.now ++ drop (at + length bytes.now) self.old) }
@@ -110,6 +113,7 @@ impl TaskMem {
     }
 
     // Writes the lowest bytes of a value at a place, the lowest first.
+    #[inline(always)]
     pub(crate) fn store(&mut self, width: Width, value: u64, at: usize)
         requires { at + bytes_of width ≤ length self.old }
         ensures { self.new ≡ stored width value self.old at }
@@ -125,6 +129,7 @@ impl TaskMem {
 }
 
 // The bytes of a load or store.
+#[inline(always)]
 pub(crate) fn count(width: Width) -> u64
     ensures value { result ≡ bytes_of width }
     ensures few { result ≤ 8 }
@@ -139,6 +144,7 @@ pub(crate) fn count(width: Width) -> u64
 }
 
 // Its bits.
+#[inline(always)]
 fn bits(width: Width) -> u32
     ensures value { result ≡ 8 * bytes_of width }
     ensures few { result ≤ 64 }

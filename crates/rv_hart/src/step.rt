@@ -9,22 +9,22 @@ ghost use Rattle.rv_decode.specs.Rows.{NumbersFit, decoded};
 ghost use Rattle.rv_hart.specs.Effect.{effect, IsJump, IsSound};
 ghost use Rattle.rv_hart.specs.Hart.{machine_of, ran, reached};
 ghost use Rattle.rv_hart.specs.Processor.{put, at_next};
-ghost use Rattle.rv_hart.specs.Step.{use_of, is_zero, operand, type_of_trap, is_breakpoint, is_overflow, lowered, trapped, returned, went, concluded, refused, by_access, clears, executed, by_instruction, by_word, fetched, made};
+ghost use Rattle.rv_hart.specs.Step.{use_of, is_zero, operand, type_of_trap, is_breakpoint, is_overflow, lowered, trapped, returned, went, concluded, by_effect, refused, by_access, clears, executed, by_instruction, by_word, fetched, made};
 
 use crate::effect::execute;
 use crate::hart::Hart;
 use crate::memory::TaskMem;
 use crate::outcome::{Jump, Outcome};
-use crate::transfers::carry;
+use crate::transfers::{carry, carry_jump};
 use ctr_buffer::CtrStore;
 use ctr_csrs::Mode;
 use ctr_rules::Transfer;
 use guest_modes::{
     BREAKPOINT, CsrFault, ILLEGAL_INSTRUCTION, INSTRUCTION_ACCESS_FAULT, LOCAL_COUNTER_OVERFLOW,
-    Ret, Trap, VIRTUAL_INSTRUCTION, enter_trap, leave_trap, pick_interrupt, trap_target,
+    Ret, Trap, VIRTUAL_INSTRUCTION, enter_trap, is_quiet, leave_trap, pick_interrupt, trap_target,
 };
 use indirect_regs::{CsrUse, access, register_laws};
-use rv_decode::{CsrArg, CsrOp, Instr, decode};
+use rv_decode::{CsrArg, CsrOp, Instr, Width, decode};
 use xfer_class::XferType;
 
 impl<B: CtrStore> Hart<B> {
@@ -55,6 +55,7 @@ impl<B: CtrStore> Hart<B> {
     }
 
     // Raises an exception.
+    #[inline(never)]
     fn raise(&mut self, cause: u8, value: u64)
         requires { IsTrue (is_cause (Trap.Exception cause)) }
         ensures { self.new ≡ ran self.old (trapped (Trap.Exception cause) value self.old.core self.old.unit) }
@@ -65,6 +66,7 @@ impl<B: CtrStore> Hart<B> {
     }
 
     // Returns from a trap.
+    #[inline(never)]
     fn leave(&mut self, ret: Ret)
         ensures { self.new ≡ ran self.old (returned ret self.old.core self.old.unit) }
     {
@@ -87,6 +89,7 @@ impl<B: CtrStore> Hart<B> {
     }
 
     // Goes on at an address, by a jump or a branch if it is one.
+    #[inline(always)]
     fn go(&mut self, jump: Option<Jump>, pc: u64)
         requires pc { pc % 4 ≡ 0 }
         requires jump { IfSome jump IsJump }
@@ -105,11 +108,12 @@ impl<B: CtrStore> Hart<B> {
                 lcofi: false,
                 misp: jump.misp,
             };
-            carry(&mut self.unit, transfer);
+            carry_jump(&mut self.unit, transfer);
         }
     }
 
     // Goes on as the outcome of an instruction says.
+    #[inline(always)]
     fn conclude(&mut self, outcome: Outcome)
         requires { IsSound outcome }
         ensures { self.new ≡ ran self.old (concluded outcome self.old.core self.old.unit) }
@@ -176,6 +180,7 @@ impl<B: CtrStore> Hart<B> {
     }
 
     // Accesses a register; rd takes its old value.
+    #[inline(never)]
     fn access(&mut self, op: CsrUse, rd: u8, csr: u16, word: u32)
         requires { rd < 32 }
         ensures { self.new ≡ ran self.old (by_access (accessed self.old.unit self.old.core.csrs self.old.core.mode csr op) rd word self.old.core self.old.unit) }
@@ -187,6 +192,7 @@ impl<B: CtrStore> Hart<B> {
     }
 
     // Makes every entry zero, where the mode may.
+    #[inline(never)]
     fn clear_records(&mut self, word: u32)
         ensures { self.new ≡ ran self.old (clears self.old.core.mode word self.old.core self.old.unit) }
     {
@@ -200,6 +206,17 @@ impl<B: CtrStore> Hart<B> {
         }
     }
 
+    // Executes an instruction that is neither an access to a register nor SCTRCLR.
+    #[inline(always)]
+    fn perform(&mut self, mem: &mut TaskMem, instr: Instr, word: u32)
+        requires { NumbersFit instr }
+        ensures hart { self.new ≡ ran self.old (by_effect (effect instr word self.old.core mem.old) self.old.unit) }
+        ensures mem { mem.new ≡ (effect instr word self.old.core mem.old).bytes }
+    {
+        let outcome = execute(&mut self.core, mem, instr, word);
+        self.conclude(outcome);
+    }
+
     // Executes an instruction, whose word is given too.
     fn execute(&mut self, mem: &mut TaskMem, instr: Instr, word: u32)
         requires { NumbersFit instr }
@@ -209,10 +226,67 @@ impl<B: CtrStore> Hart<B> {
         match instr {
             Instr::Csr { op, rd, arg, csr } => self.access(self.csr_use(op, arg), rd, csr, word),
             Instr::CtrClr => self.clear_records(word),
-            _ => {
-                let outcome = execute(&mut self.core, mem, instr, word);
-                self.conclude(outcome);
-            }
+            // The same for each, but each a copy of its own, in which the compiler knows the
+            // instruction: it takes some thirty host instructions less so.
+            Instr::Lui { .. } => self.perform(mem, instr, word),
+            Instr::Auipc { .. } => self.perform(mem, instr, word),
+            Instr::Jal { .. } => self.perform(mem, instr, word),
+            Instr::Jalr { .. } => self.perform(mem, instr, word),
+            Instr::Branch { .. } => self.perform(mem, instr, word),
+            Instr::Load {
+                width: Width::B,
+                signed: true,
+                ..
+            } => self.perform(mem, instr, word),
+            Instr::Load {
+                width: Width::H,
+                signed: true,
+                ..
+            } => self.perform(mem, instr, word),
+            Instr::Load {
+                width: Width::W,
+                signed: true,
+                ..
+            } => self.perform(mem, instr, word),
+            Instr::Load {
+                width: Width::D,
+                signed: true,
+                ..
+            } => self.perform(mem, instr, word),
+            Instr::Load {
+                width: Width::B,
+                signed: false,
+                ..
+            } => self.perform(mem, instr, word),
+            Instr::Load {
+                width: Width::H,
+                signed: false,
+                ..
+            } => self.perform(mem, instr, word),
+            Instr::Load {
+                width: Width::W,
+                signed: false,
+                ..
+            } => self.perform(mem, instr, word),
+            Instr::Store {
+                width: Width::B,
+                ..
+            } => self.perform(mem, instr, word),
+            Instr::Store {
+                width: Width::H,
+                ..
+            } => self.perform(mem, instr, word),
+            Instr::Store {
+                width: Width::W,
+                ..
+            } => self.perform(mem, instr, word),
+            Instr::Store {
+                width: Width::D,
+                ..
+            } => self.perform(mem, instr, word),
+            Instr::AluImm { .. } => self.perform(mem, instr, word),
+            Instr::Alu { .. } => self.perform(mem, instr, word),
+            _ => self.perform(mem, instr, word),
         }
     }
 
@@ -237,7 +311,9 @@ impl<B: CtrStore> Hart<B> {
         }
     }
 
-    // Executes the instruction at the program counter.
+    // Executes the instruction at the program counter. Never inlined, so that it and not the loop
+    // around it has the registers of the host.
+    #[inline(never)]
     fn run(&mut self, mem: &mut TaskMem)
         ensures hart { self.new ≡ ran self.old (by_word (fetched (machine_of self.old mem.old)) (machine_of self.old mem.old)).step }
         ensures mem { mem.new ≡ (by_word (fetched (machine_of self.old mem.old)) (machine_of self.old mem.old)).mem }
@@ -249,6 +325,7 @@ impl<B: CtrStore> Hart<B> {
     }
 
     // Takes an interrupt, which is then pending no longer.
+    #[inline(never)]
     fn interrupt(&mut self, cause: u8)
         requires cause { IsTrue (is_cause (Trap.Interrupt cause)) }
         requires between { IsTrue (is_trap_between self.old.core.mode (interrupt_taker self.old.core.csrs cause)) }
@@ -258,14 +335,28 @@ impl<B: CtrStore> Hart<B> {
         self.trap(Trap::Interrupt(cause), 0);
     }
 
-    // Takes an interrupt or executes an instruction.
-    pub(crate) fn make(&mut self, mem: &mut TaskMem)
+    // Takes an interrupt or executes an instruction, where an interrupt is pending and enabled.
+    #[inline(never)]
+    fn attend(&mut self, mem: &mut TaskMem)
         ensures hart { self.new ≡ ran self.old (made (machine_of self.old mem.old)).step }
         ensures mem { mem.new ≡ (made (machine_of self.old mem.old)).mem }
     {
         match pick_interrupt(&self.core.csrs, self.core.mode) {
             Some(cause) => self.interrupt(cause),
             None => self.run(mem),
+        }
+    }
+
+    // Takes an interrupt or executes an instruction.
+    #[inline(always)]
+    pub(crate) fn make(&mut self, mem: &mut TaskMem)
+        ensures hart { self.new ≡ ran self.old (made (machine_of self.old mem.old)).step }
+        ensures mem { mem.new ≡ (made (machine_of self.old mem.old)).mem }
+    {
+        if is_quiet(&self.core.csrs) {
+            self.run(mem);
+        } else {
+            self.attend(mem);
         }
     }
 }
