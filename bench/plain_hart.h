@@ -38,22 +38,38 @@ static inline void go(struct hart *h, uint64_t target, unsigned kind, int missed
     h->core.pc = target;
 }
 
-static inline int load(const struct memory *m, unsigned f3, uint64_t address, uint64_t *value) {
-    static const unsigned width[8] = {1, 2, 4, 8, 1, 2, 4, 0};
-    unsigned n = width[f3];
-    uint64_t at = address - BASE, v = 0;
-    if (!n || address % n || at > m->size - n) return 0;
-    memcpy(&v, m->bytes + at, n);
-    *value = f3 < 4 ? (uint64_t)sext(v, 8 * n) : v;
-    return 1;
+/* Whether so many bytes from a place on lie in memory, at a multiple of their number. */
+static inline int lies(const struct memory *m, uint64_t at, uint64_t n) {
+    return at % n == 0 && at <= m->size - n;
 }
 
-static inline int store(struct memory *m, unsigned f3, uint64_t address, uint64_t value) {
-    unsigned n = 1u << f3;
-    uint64_t at = address - BASE;
-    if (f3 > 3 || address % n || at > m->size - n) return 0;
-    memcpy(m->bytes + at, &value, n);
-    return 1;
+#define LOAD(TYPE) do { TYPE v; if (!lies(m, at, sizeof v)) return 0; memcpy(&v, m->bytes + at, sizeof v); \
+                        *value = (uint64_t)(int64_t)v; return 1; } while (0)
+
+static inline int load(const struct memory *m, unsigned f3, uint64_t at, uint64_t *value) {
+    switch (f3) {
+    case 0: LOAD(int8_t);
+    case 1: LOAD(int16_t);
+    case 2: LOAD(int32_t);
+    case 3: LOAD(int64_t);
+    case 4: LOAD(uint8_t);
+    case 5: LOAD(uint16_t);
+    case 6: LOAD(uint32_t);
+    default: return 0;
+    }
+}
+
+#define STORE(TYPE) do { TYPE v = (TYPE)value; if (!lies(m, at, sizeof v)) return 0; \
+                         memcpy(m->bytes + at, &v, sizeof v); return 1; } while (0)
+
+static inline int store(struct memory *m, unsigned f3, uint64_t at, uint64_t value) {
+    switch (f3) {
+    case 0: STORE(uint8_t);
+    case 1: STORE(uint16_t);
+    case 2: STORE(uint32_t);
+    case 3: STORE(uint64_t);
+    default: return 0;
+    }
 }
 
 static inline uint64_t alu(unsigned f3, int other, uint64_t a, uint64_t b) {
@@ -92,7 +108,7 @@ static inline int step(struct hart *h, struct memory *m, uint64_t pending) {
     uint64_t target, value = 0, link = c->pc + 4;
     switch (w & 127) {
     case 0x03:
-        if (!load(m, f3, c->x[rs1] + sext(w >> 20, 12), &value)) return 0;
+        if (!load(m, f3, c->x[rs1] + sext(w >> 20, 12) - BASE, &value)) return 0;
         break;
     case 0x13:
         value = alu(f3, f3 == 5 && w >> 30 & 1, c->x[rs1], sext(w >> 20, 12));
@@ -107,7 +123,7 @@ static inline int step(struct hart *h, struct memory *m, uint64_t pending) {
         value = sext(w & 0xfffff000, 32);
         break;
     case 0x23:
-        if (!store(m, f3, c->x[rs1] + sext((w >> 25) << 5 | (w >> 7 & 31), 12), c->x[rs2])) return 0;
+        if (!store(m, f3, c->x[rs1] + sext((w >> 25) << 5 | (w >> 7 & 31), 12) - BASE, c->x[rs2])) return 0;
         c->pc = link;
         return 1;
     case 0x63: {
