@@ -15,7 +15,7 @@ use crate::effect::execute;
 use crate::hart::Hart;
 use crate::memory::TaskMem;
 use crate::outcome::{Jump, Outcome};
-use crate::transfers::{carry, carry_jump};
+use crate::transfers::carry;
 use ctr_buffer::CtrStore;
 use ctr_csrs::Mode;
 use ctr_rules::Transfer;
@@ -24,6 +24,7 @@ use guest_modes::{
     Ret, Trap, VIRTUAL_INSTRUCTION, enter_trap, is_quiet, leave_trap, pick_interrupt, trap_target,
 };
 use indirect_regs::{CsrUse, access, register_laws};
+use rv_alu::taken;
 use rv_decode::{CsrArg, CsrOp, Instr, Width, decode};
 use xfer_class::XferType;
 
@@ -108,7 +109,7 @@ impl<B: CtrStore> Hart<B> {
                 lcofi: false,
                 misp: jump.misp,
             };
-            carry_jump(&mut self.unit, transfer);
+            carry(&mut self.unit, transfer);
         }
     }
 
@@ -227,12 +228,37 @@ impl<B: CtrStore> Hart<B> {
             Instr::Csr { op, rd, arg, csr } => self.access(self.csr_use(op, arg), rd, csr, word),
             Instr::CtrClr => self.clear_records(word),
             // The same for each, but each a copy of its own, in which the compiler knows the
-            // instruction: it takes some thirty host instructions less so.
+            // instruction, and of a jump or a branch the type of its transfer and so the bits of
+            // the controls that count. Those of one kind are built anew, or it makes one copy of
+            // them again.
             Instr::Lui { .. } => self.perform(mem, instr, word),
             Instr::Auipc { .. } => self.perform(mem, instr, word),
+            Instr::Jal { rd: 0, off } => self.perform(mem, Instr::Jal { rd: 0, off }, word),
+            Instr::Jal { rd: 1, off } => self.perform(mem, Instr::Jal { rd: 1, off }, word),
             Instr::Jal { .. } => self.perform(mem, instr, word),
+            Instr::Jalr { rd: 0, rs1: 1, off } => {
+                let back = Instr::Jalr { rd: 0, rs1: 1, off };
+                self.perform(mem, back, word);
+            }
             Instr::Jalr { .. } => self.perform(mem, instr, word),
-            Instr::Branch { .. } => self.perform(mem, instr, word),
+            Instr::Branch {
+                cond,
+                rs1,
+                rs2,
+                off,
+            } => {
+                if taken(cond, self.core.reg(rs1), self.core.reg(rs2)) {
+                    self.perform(mem, instr, word);
+                } else {
+                    let passed = Instr::Branch {
+                        cond,
+                        rs1,
+                        rs2,
+                        off,
+                    };
+                    self.perform(mem, passed, word);
+                }
+            }
             Instr::Load {
                 width: Width::B,
                 signed: true,

@@ -6,7 +6,6 @@ ghost use Rattle.rv_hart.specs.Transfers.{entry_of, transferred};
 use ctr_buffer::{CtrStore, Slot};
 use ctr_rules::{Act, Record, Transfer, act};
 use indirect_regs::CtrUnit;
-use xfer_class::XferType;
 
 // A record as an entry.
 #[inline(always)]
@@ -32,29 +31,5 @@ pub(crate) fn carry<B: CtrStore>(unit: &mut CtrUnit<B>, transfer: Transfer)
         Act::Pop => unit.store.pop(),
         Act::Swap(kept) => unit.store.swap(entry(kept)),
         Act::Freeze => unit.frozen = true,
-    }
-}
-
-/// The same for jumps and branches. Each type has a copy of the work, in which the compiler knows the type and so the bits
-/// of the controls that count.
-#[inline(always)]
-pub(crate) fn carry_jump<B: CtrStore>(unit: &mut CtrUnit<B>, transfer: Transfer)
-    requires source { transfer.source % 2 ≡ 0 }
-    requires target { transfer.target % 2 ≡ 0 }
-    requires misp { transfer.misp ≡ true → is_branch transfer.kind ≡ true }
-    ensures { unit.new ≡ transferred transfer unit.old }
-{
-    match transfer.kind {
-        XferType::NotTaken => carry(unit, transfer),
-        XferType::Taken => carry(unit, transfer),
-        XferType::IndirectCall => carry(unit, transfer),
-        XferType::DirectCall => carry(unit, transfer),
-        XferType::IndirectJump => carry(unit, transfer),
-        XferType::DirectJump => carry(unit, transfer),
-        XferType::Swap => carry(unit, transfer),
-        XferType::Return => carry(unit, transfer),
-        XferType::IndirectLinkJump => carry(unit, transfer),
-        XferType::DirectLinkJump => carry(unit, transfer),
-        _ => carry(unit, transfer),
     }
 }
