@@ -14,11 +14,11 @@ fn place(size: u16, wrptr: u8, i: u16) -> usize
     ensures is { result ≡ place_of size wrptr i }
     ensures within { result < size }
 {
-    let next = u16::from(wrptr);
+    let (size, next, i) = (usize::from(size), usize::from(wrptr), usize::from(i));
     if i < next {
-        usize::from(next - 1 - i)
+        next - 1 - i
     } else {
-        usize::from(size - 1 - (i - next))
+        next + size - 1 - i
     }
 }
 

@@ -18,13 +18,7 @@ pub fn entries(depth: Depth) -> u16
     ensures least { 16 ≤ result }
     ensures most { result ≤ 256 }
 {
-    match depth {
-        Depth::D16 => 16,
-        Depth::D32 => 32,
-        Depth::D64 => 64,
-        Depth::D128 => 128,
-        Depth::D256 => 256,
-    }
+    16 << (depth as u16)
 }
 
 /// What `sctrdepth` holds for this depth, from 0 to 4.
@@ -32,13 +26,7 @@ pub fn depth_code(depth: Depth) -> u64
     ensures is { result ≡ code_of depth }
     ensures built { result < 5 }
 {
-    match depth {
-        Depth::D16 => 0,
-        Depth::D32 => 1,
-        Depth::D64 => 2,
-        Depth::D128 => 3,
-        Depth::D256 => 4,
-    }
+    depth as u64
 }
 
 /// The depth that a code names, or `None` where it names none: the codes 5 to 7 are reserved, and higher ones
