@@ -13,9 +13,6 @@ use guest_modes::{Priv, is_register, read_csr, write_csr};
 pub(crate) fn read_register<B: CtrStore>(unit: &CtrUnit<B>, p: &Priv, number: u16) -> Option<u64>
     ensures { result ≡ (row_of number).reads unit.now p.now }
 {
-    if is_register(number) {
-        return Some(read_csr(p, number));
-    }
     match number {
         0x34E => Some(unit.get(PortReg::Mctrctl)),
         0x14E => Some(view_s(unit.m)),
@@ -36,7 +33,13 @@ pub(crate) fn read_register<B: CtrStore>(unit: &CtrUnit<B>, p: &Priv, number: u1
         0x255 => read_unused(p.vsiselect()),
         0x256 => read_unused(p.vsiselect()),
         0x257 => read_unused(p.vsiselect()),
-        _ => None,
+        _ => {
+            if is_register(number) {
+                Some(read_csr(p, number))
+            } else {
+                None
+            }
+        }
     }
 }
 
@@ -50,10 +53,6 @@ pub(crate) fn write_register<B: CtrStore>(
     ensures unit { unit.new ≡ record ((row_of number).unit unit.old value) { stack = after_any unit.old.stack ((row_of number).event unit.old p.old value) } }
     ensures registers { p.new ≡ (row_of number).registers p.old value }
 {
-    if is_register(number) {
-        write_csr(p, number, value);
-        return;
-    }
     match number {
         0x34E => unit.set(PortReg::Mctrctl, value),
         0x14E => unit.m = legal_s(unit.m, value),
@@ -68,7 +67,11 @@ pub(crate) fn write_register<B: CtrStore>(
         0x251 => write_part(unit, p.vsiselect(), Part::Source, value),
         0x252 => write_part(unit, p.vsiselect(), Part::Target, value),
         0x253 => write_part(unit, p.vsiselect(), Part::Kind, value),
-        _ => {}
+        _ => {
+            if is_register(number) {
+                write_csr(p, number, value);
+            }
+        }
     }
 }
 
