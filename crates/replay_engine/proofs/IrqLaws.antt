@@ -1,8 +1,8 @@
 -- Interrupts in their order: one more after others, and those that come before, at and after a
 -- step.
 use Rattle.std.proofs.Common.{◌≡◌, inl, inr, ℕ, zero, suc, ◌+◌, ◌^◌, ◌<◌, ◌≤◌, List, [], ◌∷◌, ◌++◌}
-use Rattle.std.proofs.Common.{length, drop, get_or, nat_eq, nat_lt, Bool, true, false, cond, Option}
-use Rattle.std.proofs.Common.{Some, None, refl, sym, ap, ◌∙◌, subst, arith}
+use Rattle.std.proofs.Common.{length, drop, get_or, ◌-◌, nat_eq, nat_lt, Bool, true, false, cond}
+use Rattle.std.proofs.Common.{Option, Some, None, refl, sym, ap, ◌∙◌, subst, arith}
 use Rattle.std.specs.Prelude.{bit_or, bit_and, ⊤}
 use Rattle.std.proofs.lemmas.List.{drop_more, drop_all}
 use Rattle.std.proofs.lemmas.List.Elements.{All-push}
@@ -11,7 +11,7 @@ use Rattle.ctr_bits.specs.MaskBits.{bit_within}
 use Rattle.guest_modes.specs.Words.{IsWithin}
 use Rattle.rv_hart.specs.Task.{Irq, causes}
 use Rattle.replay_engine.specs.Irqs.{IsIrq, IsAbove, IsNext, rise_from, Rise, last_from, CanFollow}
-use Rattle.replay_engine.specs.Irqs.{AreIrqs, place_of, no_irq, IsDue, IsEarly}
+use Rattle.replay_engine.specs.Irqs.{AreIrqs, place_of, no_irq, IsDue, IsEarly, step_at}
 
 rise_more : (before : Option Irq) (irqs : List Irq) (irq : Irq) → rise_from before irqs →
     IsNext (last_from before irqs) irq → rise_from before (irqs ++ irq ∷ [])
@@ -302,3 +302,34 @@ not_early step at irqs rise none = elim (nat_lt at (length irqs)) as (λ b. nat_
           let past : length irqs ≤ at = grind (arith, e) in
           ap (λ (xs : List Irq). place_of xs step) (drop_all at irqs past)
     ] refl
+
+-- one that is due at a place is due at the step of that place
+due_step : (step at : ℕ) (irqs : List Irq) → IsDue irqs at step → step ≡ step_at irqs at
+due_step step at irqs due =
+    sym due.at_step ∙ sym
+    (ap (λ (b : Bool). cond b (get_or irqs at no_irq).step (2 ^ 64 - 1))
+    (is_lt (length irqs) at due.within))
+
+-- in a step that isn't that of its place none is due
+none_at : (step : ℕ) (irqs : List Irq) → Rise irqs →
+    (step ≡ step_at irqs (place_of irqs step) → ⊥) →
+    not_before (step + 1) (drop (place_of irqs step) irqs)
+none_at step irqs rise other =
+    not_due step (place_of irqs step) irqs rise (from_place step None irqs rise)
+    (λ due. other (due_step step (place_of irqs step) irqs due))
+
+pub nothing_raised : (step : ℕ) (irqs : List Irq) → Rise irqs →
+    (step ≡ step_at irqs (place_of irqs step) → ⊥) → 0 ≡ causes irqs step
+nothing_raised step irqs rise other =
+    sym (none_raised step (drop (place_of irqs step) irqs) (none_at step irqs rise other))
+    ∙ raised_from step None irqs rise
+
+pub same_place : (step : ℕ) (irqs : List Irq) → Rise irqs →
+    (step ≡ step_at irqs (place_of irqs step) → ⊥) →
+    place_of irqs step ≡ place_of irqs (step + 1)
+same_place step irqs rise other =
+    omega (
+      arith,
+      placed_from step None irqs rise,
+      none_placed (step + 1) (drop (place_of irqs step) irqs) (none_at step irqs rise other),
+    )

@@ -1,5 +1,6 @@
 -- The interrupts of a task in their order, and how many of them come before a step.
-use Rattle.std.specs.Prelude.{◌≡◌, ◌⊎◌, ℕ, suc, ◌<◌, IsTrue, cond, nat_lt, List, [], ◌∷◌, length}
+use Rattle.std.specs.Prelude.{◌≡◌, ◌⊎◌, ℕ, suc, ◌-◌, ◌^◌, ◌<◌, IsTrue, cond, nat_lt, List, []}
+use Rattle.std.specs.Prelude.{◌∷◌, length}
 use Rattle.std.specs.Prelude.{Option, Some, None, ⊤, All, get_or}
 use Rattle.guest_modes.specs.declared.targets.Trap.TheVariants.{Interrupt}
 use Rattle.guest_modes.specs.Traps.{is_cause}
@@ -58,3 +59,7 @@ pub record IsDue (irqs : List Irq) (at step : ℕ) : Type 0 where
 pub record IsEarly (irqs : List Irq) (at step : ℕ) : Type 0 where
   pub within : at < length irqs
   pub before : (get_or irqs at no_irq).step < step
+
+-- the step of the one at this place; where there is none, one that no task comes to
+abbrev pub step_at : List Irq → ℕ → ℕ
+step_at irqs at = cond (nat_lt at (length irqs)) (get_or irqs at no_irq).step (2 ^ 64 - 1)

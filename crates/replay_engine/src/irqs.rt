@@ -5,6 +5,7 @@ ghost use Rattle.std.specs.Bool.{OnTrue, OnFalse};
 ghost use Rattle.guest_modes.specs.Words.{IsWithin};
 ghost use Rattle.rv_hart.specs.Task.{causes};
 ghost use Rattle.replay_engine.specs.Irqs.{IsIrq, CanFollow, IsDue, IsEarly, Rise, place_of};
+ghost use Rattle.replay_engine.specs.Irqs.{step_at};
 
 use ctr_port::NoMemory;
 use guest_modes::interrupt_laws;
@@ -143,6 +144,50 @@ impl Irqs {
             at += 1;
         }
         *place = at;
+        bits
+    }
+
+    // The step of the one at this place; where there is none, one that no task comes to.
+    pub(crate) fn step_at(&self, at: usize) -> u64
+        ensures { result ≡ step_at self.now at }
+    {
+        if at >= self.list.len() {
+            return u64::MAX;
+        }
+        let irq = self.list[at];
+        irq.step
+    }
+
+    // The same as `raised`, for a step that is mostly none of theirs: the step of the one at the
+    // place is kept beside the place, so that the list is looked at in that step alone.
+    #[inline(always)]
+    pub(crate) fn raised_at(&self, place: &mut usize, next: &mut u64, step: u64) -> u64
+        requires place { place.old ≡ place_of self.now step }
+        requires next { next.old ≡ step_at self.now place.old }
+        ensures bits { result ≡ causes self.now step }
+        ensures within { IsWithin 0x2EEE result }
+        ensures place { place.new ≡ place_of self.now (step + 1) }
+        ensures next { next.new ≡ step_at self.now place.new }
+    {
+        // That they rise is known where the list is touched.
+        let _ = &self.list;
+        if step != *next {
+            return 0;
+        }
+        self.raised_now(place, next, step)
+    }
+
+    // The same in a step that may be one of theirs.
+    #[inline(never)]
+    fn raised_now(&self, place: &mut usize, next: &mut u64, step: u64) -> u64
+        requires { place.old ≡ place_of self.now step }
+        ensures bits { result ≡ causes self.now step }
+        ensures within { IsWithin 0x2EEE result }
+        ensures place { place.new ≡ place_of self.now (step + 1) }
+        ensures next { next.new ≡ step_at self.now place.new }
+    {
+        let bits = self.raised(place, step);
+        *next = self.step_at(*place);
         bits
     }
 }

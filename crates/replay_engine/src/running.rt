@@ -107,9 +107,10 @@ pub(crate) fn run_steps<K: Sink>(
     ensures cause { OnErr result (Rose (K.faults sink.old) (K.faults sink.new)) }
 {
     let mut place = irqs.place(task.next_irq, task.steps);
+    let mut next = irqs.step_at(place);
     let mut due = next_due(subject.period, task.steps);
     for _ in 0..steps {
-        let pending = irqs.raised(&mut place, task.steps);
+        let pending = irqs.raised_at(&mut place, &mut next, task.steps);
         step(hart, task, pending);
         match write_due(hart, task, subject, &mut due, room, sink) {
             Ok(()) => {}

@@ -22,13 +22,13 @@ write_due-requires-clause-due g c =
     let p = c.args.subject.now.period in
     let before : c.step.new.task.steps - 1 ≡ c.loop.task.steps =
     omega (arith, ap (λ (t : TaskState). t.steps) c.step.ensures.task) in
-    c.loop.invariant.next ∙ ap (next_due p) (sym before)
+    c.loop.invariant.due ∙ ap (next_due p) (sym before)
 
 pub returns-in-Err-clause-part : goal.returns-in-Err-clause-part
 returns-in-Err-clause-part g c =
     let irqs = c.args.irqs.now in
-    let bits : c.raised-pending.result ≡ causes irqs c.loop.task.steps =
-    c.raised-pending.ensures.bits ∙ ap (λ (t : TaskState). causes irqs t.steps)
+    let bits : c.raised_at-pending.result ≡ causes irqs c.loop.task.steps =
+    c.raised_at-pending.ensures.bits ∙ ap (λ (t : TaskState). causes irqs t.steps)
     c.task-in-loop.view_is in
     let one = c.step.ensures.seat irqs bits in
     let made =
@@ -46,8 +46,8 @@ loop-preserved g c =
     let irqs = c.args.irqs.now in
     let s = c.args.subject.now in
     let n = c.loop.counter in
-    let bits : c.raised-pending.result ≡ causes irqs c.loop.task.steps =
-    c.raised-pending.ensures.bits ∙ ap (λ (t : TaskState). causes irqs t.steps)
+    let bits : c.raised_at-pending.result ≡ causes irqs c.loop.task.steps =
+    c.raised_at-pending.ensures.bits ∙ ap (λ (t : TaskState). causes irqs t.steps)
     c.task-in-loop.view_is in
     let one = c.step.ensures.seat irqs bits in
     let made =
@@ -55,10 +55,11 @@ loop-preserved g c =
     c.loop.task c.step.new.task s irqs n
     c.loop.invariant.stepped one c.step.ensures.hart c.step.ensures.task c.write_due.ensures.hart in
     record {
-      next = c.write_due.ensures.due;
-      cursor = c.raised-pending.ensures.place ∙ ap (λ (t : TaskState). place_of irqs (t.steps + 1))
-          c.task-in-loop.view_is ∙ ap (λ (t : TaskState). place_of irqs t.steps)
-          (sym c.step.ensures.task);
+      due = c.write_due.ensures.due;
+      cursor = c.raised_at-pending.ensures.place
+          ∙ ap (λ (t : TaskState). place_of irqs (t.steps + 1)) c.task-in-loop.view_is
+          ∙ ap (λ (t : TaskState). place_of irqs t.steps) (sym c.step.ensures.task);
+      next = c.raised_at-pending.ensures.next;
       stepped =
           subst (StepsMade c.args.hart.now c.write_due.new.hart c.args.task.now c.step.new.task s
           irqs) (suc-eq-add-one n) made;

@@ -1,5 +1,5 @@
 use Rattle.std.proofs.Common.{◌≡◌, ◌≤◌}
-use Rattle.replay_engine.specs.Irqs.{place_of}
+use Rattle.replay_engine.specs.Irqs.{place_of, step_at}
 use Rattle.replay_engine.specs.Tasks.{state_on}
 use Rattle.replay_engine.specs.Runs.{samples_of_steps, spellings}
 use Rattle.replay_engine.proofs.running.run_steps.Given as goal
@@ -7,8 +7,9 @@ use Rattle.replay_engine.specs.Parts.{StepsMade, next_due}
 
 abbrev pub invariant-loop : goal.invariant-loop
 invariant-loop g l = record {
-  next : l.due ≡ next_due l.subject.period l.task.steps;
+  due : l.due ≡ next_due l.subject.period l.task.steps;
   cursor : l.place ≡ place_of l.irqs l.task.steps;
+  next : l.next ≡ step_at l.irqs l.place;
   stepped : StepsMade l.fn.hart l.hart l.fn.task l.task l.subject l.irqs l.counter;
   written : g.K.Sink.gained l.fn.sink
       (spellings l.subject.layout (samples_of_steps l.subject l.irqs l.counter
