@@ -8,7 +8,7 @@ pub use restoring::restore;
 pub use save_area::SaveArea;
 pub use saving::save;
 pub use slots::Slots;
-pub use stack::read_stack;
+pub use stack::{read_stack, read_stack_into};
 
 mod entry;
 mod restoring;

@@ -20,35 +20,27 @@ pub fn save<P: CtrPort>(port: &mut P, area: &mut SaveArea)
     ensures count { P.count port.new ≡ P.count port.old + (5 + 4 * entries_of (P.unit port.old).stack.depth) }
     ensures rest { P.same_rest port.old port.new }
 {
-    let depth = read_depth(port);
-    let m = port.get(PortReg::Mctrctl);
-    let vs = port.get(PortReg::Vsctrctl);
-    let status = port.get(PortReg::Status);
-    let select = port.get(PortReg::Select);
-    let slots = read_entries(port, entries(depth));
-    *area = SaveArea {
-        m,
-        vs,
-        depth,
-        status,
-        select,
-        slots,
-    };
+    area.depth = read_depth(port);
+    area.m = port.get(PortReg::Mctrctl);
+    area.vs = port.get(PortReg::Vsctrctl);
+    area.status = port.get(PortReg::Status);
+    area.select = port.get(PortReg::Select);
+    read_entries(port, entries(area.depth), &mut area.slots);
 }
 
 // Reads as many entries from the youngest on, in 4 accesses each.
-fn read_entries<P: CtrPort>(port: &mut P, number: u16) -> Slots
+fn read_entries<P: CtrPort>(port: &mut P, number: u16, slots: &mut Slots)
     requires room { P.count port.old ≤ 2 ^ 62 + 8 }
     requires all { number ≤ length (P.unit port.old).stack.slots }
     requires small { number ≤ 256 }
-    ensures slots { result ≡ take number (P.unit port.old).stack.slots }
+    ensures slots { slots.new ≡ take number (P.unit port.old).stack.slots }
     ensures unit { P.unit port.new ≡ passed number (P.unit port.old) }
     ensures count { P.count port.new ≡ P.count port.old + 4 * number }
     ensures rest { P.same_rest port.old port.new }
 {
-    let mut slots = Slots::new();
+    slots.clear();
     for i in 0..number {
-        slots.push(read_entry(port, i));
+        let slot = read_entry(port, i);
+        slots.push(slot);
     }
-    slots
 }

@@ -31,6 +31,13 @@ impl Slots {
         }
     }
 
+    /// Removes every entry.
+    pub fn clear(&mut self)
+        ensures { self.new ≡ [] }
+    {
+        self.list.clear();
+    }
+
     /// The entries, youngest first.
     pub fn items(&self) -> &[Slot]
         ensures items { result.now ≡ self.now }

@@ -18,28 +18,42 @@ pub fn read_stack<P: CtrPort>(port: &mut P) -> Slots
     ensures count { P.count port.new ≡ P.count port.old + (3 + 4 * entries_of (P.unit port.old).stack.depth) }
     ensures rest { P.same_rest port.old port.new }
 {
-    let depth = read_depth(port);
-    let select = port.get(PortReg::Select);
-    let slots = read_valid(port, entries(depth));
-    port.set(PortReg::Select, select);
+    let mut slots = Slots::new();
+    read_stack_into(port, &mut slots);
     slots
 }
 
+/// Makes slots those that [`read_stack`] answers, whatever they were, in as many accesses. They are
+/// read in their place, so a caller that keeps it from one reading to the next moves none of them.
+pub fn read_stack_into<P: CtrPort>(port: &mut P, slots: &mut Slots)
+    requires { P.count port.old ≤ 2 ^ 62 }
+    ensures slots { slots.new ≡ valid_entries (P.unit port.old).stack.slots }
+    ensures unit { P.unit port.new ≡ P.unit port.old }
+    ensures count { P.count port.new
+        ≡ P.count port.old + (3 + 4 * entries_of (P.unit port.old).stack.depth) }
+    ensures rest { P.same_rest port.old port.new }
+{
+    let depth = read_depth(port);
+    let select = port.get(PortReg::Select);
+    read_valid(port, entries(depth), slots);
+    port.set(PortReg::Select, select);
+}
+
 // Reads as many entries from the youngest on, in 4 accesses each, and keeps those that hold a transfer.
-fn read_valid<P: CtrPort>(port: &mut P, number: u16) -> Slots
+fn read_valid<P: CtrPort>(port: &mut P, number: u16, slots: &mut Slots)
     requires room { P.count port.old ≤ 2 ^ 62 + 8 }
     requires all { number ≤ length (P.unit port.old).stack.slots }
     requires small { number ≤ 256 }
-    ensures slots { result ≡ valid_entries (take number (P.unit port.old).stack.slots) }
+    ensures slots { slots.new ≡ valid_entries (take number (P.unit port.old).stack.slots) }
     ensures unit { P.unit port.new ≡ passed number (P.unit port.old) }
     ensures count { P.count port.new ≡ P.count port.old + 4 * number }
     ensures rest { P.same_rest port.old port.new }
 {
-    let mut slots = Slots::new();
+    slots.clear();
     for i in 0..number {
-        keep(&mut slots, read_entry(port, i));
+        let slot = read_entry(port, i);
+        keep(slots, slot);
     }
-    slots
 }
 
 // Adds an entry if it holds a transfer.
