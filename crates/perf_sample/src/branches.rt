@@ -52,4 +52,11 @@ impl Branches {
     {
         self.list.push(item);
     }
+
+    /// Removes every branch.
+    pub fn clear(&mut self)
+        ensures { self.new ≡ [] }
+    {
+        self.list.clear();
+    }
 }

@@ -23,10 +23,10 @@ ghost use Rattle.replay_engine.specs.Visible.{IsLoneSample, IsGivenSample, IsPla
 use crate::fault::PerformFault;
 use crate::performing::{attempt, is_write};
 use crate::plan::Plan;
+use crate::sampling::SampleRoom;
 use crate::starting::{TaskMems, first_tasks, layout_of, orders_of};
 use crate::tasks::Tasks;
 use ctr_port::{NoMemory, Sink};
-use perf_sample::Buffer;
 use rv_hart::{Harts, lone_run_laws, step_laws};
 use sched_text::{Command, Header};
 use std::alloc::Global;
@@ -39,8 +39,8 @@ pub struct Engine {
     plan: Plan,
     tasks: Tasks,
     broken: bool,
-    // Room for the bytes of a sample, which is cleared once.
-    room: Box<Buffer>,
+    // Where each sample is made, which is cleared once.
+    room: Box<SampleRoom>,
 }
 
 impl Model for Engine {
@@ -80,7 +80,7 @@ impl Engine {
             ≡ map first_present (tasks_of_lines 0 header.tasks images header.irqs)) }
     {
         let layout = layout_of(&header);
-        let room = Box::new(alloc, Buffer::new())?;
+        let room = Box::new(alloc, SampleRoom::new())?;
         let orders = orders_of(alloc, &header.tasks, &header.irqs)?;
         let tasks = first_tasks(alloc, &header.tasks, mems)?;
         tasks.facts();

@@ -13,10 +13,9 @@ ghost use Rattle.replay_engine.specs.Outcome.{IsReady, IsOutcome, is_write};
 use crate::fault::PerformFault;
 use crate::plan::{Orders, Plan};
 use crate::running::run_steps;
-use crate::sampling::{Subject, write_sample};
+use crate::sampling::{SampleRoom, Subject, write_sample};
 use crate::tasks::Tasks;
 use ctr_port::{Sink, WriteFault};
-use perf_sample::Buffer;
 use rv_hart::Harts;
 use sched_text::Command;
 
@@ -27,7 +26,7 @@ fn run_on_hart<K: Sink>(
     orders: &Orders,
     subject: &Subject,
     steps: u32,
-    room: &mut Buffer,
+    room: &mut SampleRoom,
     sink: &mut K,
 ) -> Result<(), WriteFault>
     requires task { subject.now.task < length tasks.old }
@@ -58,7 +57,7 @@ fn sample_on_hart<K: Sink>(
     tasks: &Tasks,
     harts: &mut Harts,
     subject: &Subject,
-    room: &mut Buffer,
+    room: &mut SampleRoom,
     sink: &mut K,
 ) -> Result<(), WriteFault>
     requires task { subject.now.task < length tasks.now }
@@ -89,7 +88,7 @@ fn run<K: Sink>(
     task: u64,
     steps: u32,
     harts: &mut Harts,
-    room: &mut Buffer,
+    room: &mut SampleRoom,
     sink: &mut K,
 ) -> Result<(), PerformFault>
     requires ready { IsReady plan.now tasks.old harts.old }
@@ -127,7 +126,7 @@ fn sample<K: Sink>(
     tasks: &mut Tasks,
     task: u64,
     harts: &mut Harts,
-    room: &mut Buffer,
+    room: &mut SampleRoom,
     sink: &mut K,
 ) -> Result<(), PerformFault>
     requires ready { IsReady plan.now tasks.old harts.old }
@@ -192,7 +191,7 @@ pub(crate) fn attempt<K: Sink>(
     tasks: &mut Tasks,
     command: Command,
     harts: &mut Harts,
-    room: &mut Buffer,
+    room: &mut SampleRoom,
     sink: &mut K,
 ) -> Result<(), PerformFault>
     requires ready { IsReady plan.now tasks.old harts.old }

@@ -11,10 +11,9 @@ ghost use Rattle.replay_engine.specs.Runs.{next_present, due_sample, due_cost, s
 ghost use Rattle.replay_engine.specs.Tasks.{state_on};
 
 use crate::irqs::Irqs;
-use crate::sampling::{Subject, write_sample};
+use crate::sampling::{SampleRoom, Subject, write_sample};
 use crate::task::Task;
 use ctr_port::{Sink, WriteFault};
-use perf_sample::Buffer;
 use rv_hart::{Hart, Store};
 
 // One step of a task on a hart.
@@ -56,7 +55,7 @@ fn write_due<K: Sink>(
     task: &Task,
     subject: &Subject,
     due: &mut u64,
-    room: &mut Buffer,
+    room: &mut SampleRoom,
     sink: &mut K,
 ) -> Result<(), WriteFault>
     requires room { hart.old.accesses + 2 ≤ 2 ^ 62 }
@@ -92,7 +91,7 @@ pub(crate) fn run_steps<K: Sink>(
     irqs: &Irqs,
     subject: &Subject,
     steps: u32,
-    room: &mut Buffer,
+    room: &mut SampleRoom,
     sink: &mut K,
 ) -> Result<(), WriteFault>
     requires few { steps ≤ MOST_STEPS }

@@ -1,10 +1,11 @@
 //! The sample of a task on a hart, whose records are read through the registers.
 
 ghost use Rattle.std.specs.Prelude.{◌≡◌, ◌<◌, ◌≤◌, ◌+◌, ◌-◌, ◌*◌, ◌^◌, map, length, nat_eq};
-ghost use Rattle.std.specs.Prelude.{if◌then◌else◌, OnOk, OnErr};
+ghost use Rattle.std.specs.Prelude.{if◌then◌else◌, OnOk, OnErr, []};
 ghost use Rattle.ctr_csrs.specs.Depths.{entries_of};
 ghost use Rattle.ctr_port.specs.Appended.{GainsPart};
 ghost use Rattle.ctr_port.specs.Counts.{Rose};
+ghost use Rattle.perf_sample.specs.Blank.{blank};
 ghost use Rattle.perf_sample.specs.Layout.{Fits, FlagsFit};
 ghost use Rattle.perf_sample.specs.Spelling.{spelling};
 ghost use Rattle.perf_sample.specs.declared.faults.Place.TheVariants as place;
@@ -20,7 +21,7 @@ use perf_sample::{
     MISC_KERNEL, MISC_USER, Place, Sample, encode,
 };
 use rv_hart::{Hart, Store};
-use task_switch::{Slots, read_stack};
+use task_switch::{Slots, read_stack_into};
 
 /// What the samples of a task on a hart have in common: the layout, the number of the task, that of
 /// the hart, and the period in steps of the task, which is 0 where no step asks for a sample.
@@ -30,6 +31,29 @@ pub struct Subject {
     pub task: u8,
     pub hart: u8,
     pub period: u32,
+}
+
+/// All that a sample takes: its entries, the sample itself, and its bytes. It is made once, and each
+/// sample is made in its place, so that no array is cleared or moved for it.
+#[derive(Drop)]
+pub(crate) struct SampleRoom {
+    slots: Slots,
+    sample: Sample,
+    bytes: Buffer,
+}
+
+impl SampleRoom {
+    // A room with nothing in it.
+    pub(crate) fn new() -> SampleRoom
+        ensures slots { result.slots ≡ [] }
+        ensures sample { result.sample ≡ blank }
+    {
+        SampleRoom {
+            slots: Slots::new(),
+            sample: Sample::blank(),
+            bytes: Buffer::new(),
+        }
+    }
 }
 
 // The mode of a sample.
@@ -58,16 +82,15 @@ fn branch(slot: Slot) -> Branch
     )
 }
 
-// Entries as branches, in the same order.
-fn branches(slots: &Slots) -> Branches
-    ensures items { result ≡ map branch_of slots.now }
-    ensures flags { FlagsFit result }
+// Makes branches those of entries, in the same order.
+fn put_branches(slots: &Slots, branches: &mut Branches)
+    ensures items { branches.new ≡ map branch_of slots.now }
+    ensures flags { FlagsFit branches.new }
 {
-    let mut branches = Branches::new();
+    branches.clear();
     for slot in slots.items() {
         branches.push(branch(*slot));
     }
-    branches
 }
 
 // A field of 64 bits as the layout keeps it.
@@ -129,12 +152,18 @@ fn hw_index(layout: Layout, slots: &Slots, youngest: u64) -> u64
     }
 }
 
-// The sample of a task that made so many steps, with its records read through the registers of its
-// hart.
-pub(crate) fn sample(hart: &mut Hart<Store>, subject: &Subject, steps: u64) -> Sample
+// Makes a sample that of a task that made so many steps, with its records read through the registers
+// of its hart.
+fn fill(
+    hart: &mut Hart<Store>,
+    subject: &Subject,
+    steps: u64,
+    slots: &mut Slots,
+    sample: &mut Sample,
+)
     requires { hart.old.accesses + 2 ≤ 2 ^ 62 }
-    ensures value { result ≡ sample_by subject.now hart.old.core hart.old.unit.stack steps }
-    ensures fits { Fits subject.now.layout result }
+    ensures value { sample.new ≡ sample_by subject.now hart.old.core hart.old.unit.stack steps }
+    ensures fits { Fits subject.now.layout sample.new }
     ensures hart { hart.new ≡ record hart.old {
       accesses =
           hart.old.accesses + (hw_index_cost subject.now.layout +
@@ -143,31 +172,29 @@ pub(crate) fn sample(hart: &mut Hart<Store>, subject: &Subject, steps: u64) -> S
 {
     let layout = subject.layout;
     let youngest = read_hw_index(hart, layout);
-    let slots = read_stack(hart);
+    read_stack_into(hart, slots);
     let number = u64::from(subject.task);
     let process = keep_half(layout, Place::Tid, u32::from(subject.task) + 1);
-    Sample {
-        misc: misc(hart.core().mode),
-        identifier: keep(layout, Place::Identifier, number),
-        ip: keep(layout, Place::Ip, hart.core().pc),
-        pid: process,
-        tid: process,
-        time: keep(layout, Place::Time, steps),
-        addr: 0,
-        id: keep(layout, Place::Id, number),
-        stream_id: 0,
-        cpu: keep_half(layout, Place::Cpu, u32::from(subject.hart)),
-        period: keep(layout, Place::Period, u64::from(subject.period)),
-        hw_index: hw_index(layout, &slots, youngest),
-        branches: branches(&slots),
-    }
+    sample.misc = misc(hart.core().mode);
+    sample.identifier = keep(layout, Place::Identifier, number);
+    sample.ip = keep(layout, Place::Ip, hart.core().pc);
+    sample.pid = process;
+    sample.tid = process;
+    sample.time = keep(layout, Place::Time, steps);
+    sample.addr = 0;
+    sample.id = keep(layout, Place::Id, number);
+    sample.stream_id = 0;
+    sample.cpu = keep_half(layout, Place::Cpu, u32::from(subject.hart));
+    sample.period = keep(layout, Place::Period, u64::from(subject.period));
+    sample.hw_index = hw_index(layout, slots, youngest);
+    put_branches(slots, &mut sample.branches);
 }
 
-// Writes a sample, whose bytes are put into a room first.
+// Writes a sample, whose bytes are put into a buffer first.
 fn write<K: Sink>(
     layout: Layout,
     sample: &Sample,
-    room: &mut Buffer,
+    bytes: &mut Buffer,
     sink: &mut K,
 ) -> Result<(), WriteFault>
     requires { Fits layout sample.now }
@@ -177,8 +204,8 @@ fn write<K: Sink>(
     ensures later { K.faults sink.old ≤ K.faults sink.new }
     ensures cause { OnErr result (Rose (K.faults sink.old) (K.faults sink.new)) }
 {
-    encode(layout, sample, room);
-    match write_whole(sink, room.as_slice()) {
+    encode(layout, sample, bytes);
+    match write_whole(sink, bytes.as_slice()) {
         Ok(()) => Ok(()),
         Err(fault) => Err(fault),
     }
@@ -191,7 +218,7 @@ pub(crate) fn write_sample<K: Sink>(
     hart: &mut Hart<Store>,
     subject: &Subject,
     steps: u64,
-    room: &mut Buffer,
+    room: &mut SampleRoom,
     sink: &mut K,
 ) -> Result<(), WriteFault>
     requires { hart.old.accesses + 2 ≤ 2 ^ 62 }
@@ -210,6 +237,6 @@ pub(crate) fn write_sample<K: Sink>(
     ensures later { K.faults sink.old ≤ K.faults sink.new }
     ensures cause { OnErr result (Rose (K.faults sink.old) (K.faults sink.new)) }
 {
-    let sample = sample(hart, subject, steps);
-    write(subject.layout, &sample, room, sink)
+    fill(hart, subject, steps, &mut room.slots, &mut room.sample);
+    write(subject.layout, &room.sample, &mut room.bytes, sink)
 }
