@@ -1,24 +1,38 @@
-ghost use Rattle.std.specs.Prelude.{◌≡◌, ◌<◌, ◌≤◌, [], ◌∷◌, ◌++◌, length};
+ghost use Rattle.std.specs.Prelude.{◌≡◌, ◌<◌, ◌≤◌, [], ◌∷◌, ◌++◌, length, replicate};
+ghost use Rattle.ctr_buffer.specs.Entry.{zero_entry};
 
-use arrayvec::ArrayVec;
 use ctr_buffer::Slot;
 use std::marker::Model;
+
+// Zero slots, as many as there can be.
+fn zero_slots() -> [Slot; 256]
+    ensures { result ≡ replicate 256 zero_entry }
+{
+    [Slot {
+        source: 0,
+        target: 0,
+        kind: 0,
+    }; 256]
+}
 
 /// Up to 256 entries of a record buffer, youngest first. Contracts see the list of them.
 #[derive(Debug, Drop)]
 pub struct Slots {
-    list: ArrayVec<Slot, 256>,
+    // The entries are the first of these. What lies behind them is left as it was, so that to remove
+    // entries clears nothing.
+    list: [Slot; 256],
+    count: usize,
 }
 
 impl Model for Slots {
-    ghost use Rattle.std.specs.Prelude.{List, ◌≤◌, length};
+    ghost use Rattle.std.specs.Prelude.{List, ◌≡◌, ◌≤◌, length, take};
     ghost use Rattle.ctr_buffer.specs.Entry.{Entry};
 
     ghost Value = { List Entry };
 
-    ghost view = { λ s. s.list.items };
+    ghost view = { λ s. take s.count s.list };
 
-    ghost invariant = { λ s. length s.list.items ≤ 256 };
+    ghost invariant = { λ s. (s.count ≤ 256) × (length s.list ≡ 256) };
 }
 
 impl Slots {
@@ -27,7 +41,8 @@ impl Slots {
         ensures { result ≡ [] }
     {
         Slots {
-            list: ArrayVec::new(),
+            list: zero_slots(),
+            count: 0,
         }
     }
 
@@ -35,7 +50,7 @@ impl Slots {
     pub fn clear(&mut self)
         ensures { self.new ≡ [] }
     {
-        self.list.clear();
+        self.count = 0;
     }
 
     /// The entries, youngest first.
@@ -43,7 +58,7 @@ impl Slots {
         ensures items { result.now ≡ self.now }
         ensures fits { length self.now ≤ 256 }
     {
-        self.list.as_slice()
+        &self.list[..self.count]
     }
 
     /// Adds an entry that is older than those before it. There is room for 256.
@@ -51,6 +66,7 @@ impl Slots {
         requires { length self.old < 256 }
         ensures { self.new ≡ self.old ++ slot ∷ [] }
     {
-        self.list.push(slot);
+        self.list[self.count] = slot;
+        self.count += 1;
     }
 }
