@@ -1,10 +1,14 @@
 #!/usr/bin/env python3
-"""Million steps a second and host instructions a step of the engine's `run`, beside a bare loop of `Hart::step` without
-interrupts and beside the built program, which performs the same schedule by the engine; what a sample costs, where each
-thousandth step is followed by one; what a move costs; the stack; and peak memory. The program around the engine and the bare
-loop are made and proved in a temporary folder.
+"""Host instructions a step and million steps a second of the engine's `run`, beside a bare loop of `Hart::step` without
+interrupts and beside the built program, which performs the same schedule by the engine; a sample of the built program, beside
+one of bench/plain_program.c whose accesses are calls; what a sample costs, where each thousandth step is followed by one; what
+a move costs; the stack; and peak memory. The program around the engine and the bare loop are made and proved in a temporary
+folder.
+
+Times are the middle of five runs, with the least and the greatest; the programs run in turn.
 
     bench/engine.py [STEPS]     (100000000 where none are given)
+    bench/engine.py samples     (the sample of the built program alone, with nothing to prove)
 """
 import os
 import shutil
@@ -15,6 +19,9 @@ import tempfile
 import measure
 import steps as small
 from readers import MAIN, build, write
+
+SAMPLES = 20_000
+TENTH = 10
 
 BELOW = ["ctr_bits", "ctr_port", "rv_decode", "rv_alu", "xfer_class", "ctr_csrs", "ctr_rules", "ctr_buffer", "guest_modes",
          "indirect_regs", "rv_hart", "task_switch", "perf_sample", "sched_text", "replay_engine"]
@@ -371,6 +378,34 @@ def many(size):
     return head.encode() + small.image_of([0x6F]) * 64 + runs.encode() + b"end\n"
 
 
+def sampling(count):
+    """A task of depth 256 that jumps to itself, and so many samples, each after ten steps. All but the first 25 have 256
+    branches."""
+    return schedule([0x6F], 4, small.ON, 0, TENTH, TENTH * count)
+
+
+def samples_beside_calls(folder):
+    """A sample of the built program, beside the same bytes by plain C through the same four calls an entry."""
+    plain = measure.compiled("plain_program.c", folder, ("CALLS",))
+    if not plain or not os.path.exists(small.BINARY):
+        return
+    commands = [[program, "run"] for program in (small.BINARY, plain)]
+    if len({measure.digest(command, sampling(SAMPLES)) for command in commands}) != 1:
+        raise SystemExit("the program and plain_program.c sample differently")
+    name = "a sample of depth 256 and its ten steps"
+    if measure.HAS_VALGRIND:
+        counts = (SAMPLES // 20, SAMPLES // 10)
+        ours, theirs = ((last - first) / (counts[1] - counts[0]) for first, last in (
+            (measure.host_instructions(command, sampling(count), folder) for count in counts) for command in commands))
+        measure.figures(name, "host instructions", ours, [("C by calls", theirs)])
+    path = os.path.join(folder, "sampling")
+    with open(path, "wb") as f:
+        f.write(sampling(SAMPLES))
+    ours, theirs = ([seconds / SAMPLES * 1e6 for seconds in times]
+                    for times in measure.alternating([(command, path) for command in commands]))
+    measure.spread(name, "microseconds", ours, [("C by calls", theirs)])
+
+
 def stack(command, text, folder):
     """The most bytes that the stack takes, as valgrind's massif sees it."""
     out = os.path.join(folder, "massif.out")
@@ -380,11 +415,12 @@ def stack(command, text, folder):
         return max(int(line.split("=")[1]) for line in f if line.startswith("mem_stacks_B="))
 
 
-def took(command, text, count):
+def rate(command, text, count):
+    """Million steps a second, by the processor time that a program prints beside its steps."""
     steps, nanoseconds = subprocess.run(command, input=text, stdout=subprocess.PIPE, check=True).stdout.split()
     if int(steps) != count:
         raise SystemExit("%s steps were made instead of %d" % (steps.decode(), count))
-    return int(nanoseconds) / 1e9
+    return count * 1e3 / int(nanoseconds)
 
 
 def main(steps):
@@ -395,15 +431,17 @@ def main(steps):
         for name, words, code, control, irqs in small.LOOPS:
             text_of = lambda n: schedule(words, code, control, irqs, 0, n)
             plainly = lambda n: small.schedule(words, code, control, irqs, n)
-            others = [("bare", steps / took(bare, text_of(steps), steps) / 1e6)]
-            if os.path.exists(small.BINARY):
-                others.append(("program", steps / measure.seconds([small.BINARY, "run"], plainly(steps)) / 1e6))
-            measure.figures(name, "million steps/s", steps / took(engine, text_of(steps), steps) / 1e6, others)
             if measure.HAS_VALGRIND:
                 others = [("bare", per_step(bare, text_of, folder))]
                 if os.path.exists(small.BINARY):
                     others.append(("program", per_step([small.BINARY, "run"], plainly, folder)))
-                measure.figures("", "host instructions/step", per_step(engine, text_of, folder), others)
+                measure.figures(name, "host instructions/step", per_step(engine, text_of, folder), others)
+            rates = [lambda: rate(engine, text_of(steps), steps), lambda: rate(bare, text_of(steps), steps)]
+            if os.path.exists(small.BINARY):
+                rates.append(lambda: steps / measure.seconds([small.BINARY, "run"], plainly(steps)) / 1e6)
+            ours, *others = measure.in_turn(rates)
+            measure.spread(name, "million steps/s", ours, list(zip(("bare", "program"), others)))
+        samples_beside_calls(folder)
         if measure.HAS_VALGRIND:
             for code in (0, 4):
                 without, sampled = (per_step(engine, lambda n: schedule(small.MIXED, code, small.ON, 0, period, n), folder)
@@ -417,4 +455,8 @@ def main(steps):
 
 
 if __name__ == "__main__":
+    if sys.argv[1:] == ["samples"]:
+        with tempfile.TemporaryDirectory() as own_folder:
+            samples_beside_calls(own_folder)
+        sys.exit()
     main(int(sys.argv[1]) if len(sys.argv) > 1 else 100_000_000)

@@ -15,12 +15,12 @@ HAS_VALGRIND = shutil.which("valgrind") is not None
 HAS_STRACE = shutil.which("strace") is not None
 
 
-def compiled(source, folder):
-    """The path of a C program of this folder, compiled, or None where there is no compiler."""
+def compiled(source, folder, defined=()):
+    """The path of a C program of this folder, compiled with these macros defined, or None where there is no compiler."""
     if not shutil.which("cc"):
         return None
-    path = os.path.join(folder, os.path.splitext(source)[0])
-    subprocess.run(["cc", "-O2", "-o", path, os.path.join(HERE, source)], check=True)
+    path = os.path.join(folder, "_".join([os.path.splitext(source)[0], *defined]))
+    subprocess.run(["cc", "-O2", *("-D" + name for name in defined), "-o", path, os.path.join(HERE, source)], check=True)
     return path
 
 
@@ -38,14 +38,19 @@ def seconds_of_file(command, path):
         return time.perf_counter() - begin
 
 
+def in_turn(figures_of, times=5):
+    """The least, middle and greatest of the figures that each of some functions answers, called in turn."""
+    found = [[] for _ in figures_of]
+    for _ in range(times):
+        for figures, figure_of in zip(found, figures_of):
+            figures.append(figure_of())
+    return [(min(figures), sorted(figures)[times // 2], max(figures)) for figures in found]
+
+
 def alternating(commands, times=5):
     """The least, middle and greatest of the seconds that each of some commands takes, run in turn. A command is its words
     and the path of its standard input."""
-    took = [[] for _ in commands]
-    for _ in range(times):
-        for found, (words, path) in zip(took, commands):
-            found.append(seconds_of_file(words, path))
-    return [(min(found), sorted(found)[times // 2], max(found)) for found in took]
+    return in_turn([lambda words=words, path=path: seconds_of_file(words, path) for words, path in commands], times)
 
 
 def spread(name, unit, ours, others):

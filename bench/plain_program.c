@@ -1,6 +1,7 @@
 /* A yardstick for bench/program.py: the words `run` and `show` in plain C, for schedules of version 1 in the layout 803 whose
    tasks are in mode M, and for samples of that layout. What is well formed is taken; nothing is said of what isn't.
-   plain_program run < SCHEDULE > SAMPLES, plain_program show < SAMPLES > TEXT. */
+   plain_program run < SCHEDULE > SAMPLES, plain_program show < SAMPLES > TEXT. Compiled with -DCALLS each access to a
+   register of the records is a call, as it is where a monitor is another program than the hart. */
 #include <stdio.h>
 #include <stdlib.h>
 #include <unistd.h>
@@ -23,8 +24,14 @@ static inline uint64_t *word(struct unit *u, unsigned number) {
     return number == SIREG ? &slot->source : number == SIREG2 ? &slot->target : &slot->kind;
 }
 
+#ifdef CALLS
+#define ACCESS __attribute__((noinline, noclone))
+#else
+#define ACCESS
+#endif
+
 /* An access to a register of the records from outside. */
-static uint64_t get(struct hart *h, unsigned number) {
+static ACCESS uint64_t get(struct hart *h, unsigned number) {
     struct unit *u = &h->unit;
     h->accesses++;
     switch (number) {
@@ -36,7 +43,7 @@ static uint64_t get(struct hart *h, unsigned number) {
     }
 }
 
-static void set(struct hart *h, unsigned number, uint64_t value) {
+static ACCESS void set(struct hart *h, unsigned number, uint64_t value) {
     struct unit *u = &h->unit;
     h->accesses++;
     switch (number) {
