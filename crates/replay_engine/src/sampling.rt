@@ -33,8 +33,8 @@ pub struct Subject {
     pub period: u32,
 }
 
-/// All that a sample takes: its entries, the sample itself, and its bytes. It is made once, and each
-/// sample is made in its place, so that no array is cleared or moved for it.
+// All that a sample takes: its entries, the sample itself, and its bytes. It is made once, and each
+// sample is made in its place, so that no array is moved for it.
 #[derive(Drop)]
 pub(crate) struct SampleRoom {
     slots: Slots,
