@@ -133,6 +133,12 @@ TakesHeader layout left left' (Ok (Some h)) =
     Consumes left left' (header_bytes h.misc h.size) × (is_size layout h.size ≡ true)
 TakesHeader layout left left' (Err f) = Broke layout left left' f
 
+-- what a call that reads into a room answers, with the sample that the room holds then
+abbrev pub answer_of : Result Bool SampleFault → Sample → Result (Option Sample) SampleFault
+answer_of (Ok true) s = Ok (Some s)
+answer_of (Ok false) s = Ok None
+answer_of (Err f) s = Err f
+
 -- a sample was taken, or there is none
 abbrev pub TakesSample : LayoutWords → Option (List ℕ) → Option (List ℕ)
     → Result (Option Sample) SampleFault → Type 0

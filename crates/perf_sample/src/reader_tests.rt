@@ -494,6 +494,57 @@ fn come_back(
     Ok(())
 }
 
+// Samples with so many branches each, written one after another, are read into one room, in which
+// nothing of the sample before is left.
+fn come_into_one_room(
+    rt: &impl Abort,
+    alloc: Global,
+    layout: Layout,
+    counts: &[u16],
+) -> Result<(), Fail> {
+    let mut bytes = Vec::new(alloc);
+    for count in counts {
+        let out = written(layout, &filled(rt, layout, *count))?;
+        bytes.extend_from_slice(out.as_slice())?;
+    }
+    let mut source = MemSource::new(alloc, &bytes, &[], &[])?;
+    let mut reader = SampleReader::new(layout);
+    let full = Layout::of(0x10BCF).ok_or("a layout")?;
+    let mut room = filled(rt, full.with_branch(HW_INDEX).ok_or("a layout")?, 256);
+    for count in counts {
+        assert_eq!(rt; reader.read_into(&mut source, &mut room), Ok(true));
+        are_same(rt, &filled(rt, layout, *count), &room, layout.bits());
+    }
+    assert_eq!(rt; reader.read_into(&mut source, &mut room), Ok(false));
+    Ok(())
+}
+
+#[test]
+fn samples_come_one_after_another_into_one_room(rt: HostRuntime) -> Result<(), Fail> {
+    for bits in [0x800, 0x803, 0x883, 0x904, 0x10BCF] {
+        let layout = Layout::of(bits).ok_or("a layout")?;
+        come_into_one_room(&rt, rt.alloc(), layout, &[256, 0, 16, 1])?;
+    }
+    Ok(())
+}
+
+#[test]
+fn a_failed_read_into_a_room_is_told_again(rt: HostRuntime) -> Result<(), Fail> {
+    let layout = Layout::of(0x803).ok_or("a layout")?;
+    let mut source = MemSource::new(rt.alloc(), &ONE_CALL, &[], &[8])?;
+    let mut reader = SampleReader::new(layout);
+    let mut room = Sample::blank();
+    assert_eq!(rt; reader.read_into(&mut source, &mut room), Ok(true));
+    assert_eq!(rt; room.branches.items().len(), 1);
+    // The header of a second sample is looked for by read number 7, which finds the end; read
+    // number 8 fails.
+    assert_eq!(rt; reader.read_into(&mut source, &mut room), Ok(false));
+    let failed = Err(SampleFault::ReadFault);
+    assert_eq!(rt; reader.read_into(&mut source, &mut room), failed);
+    assert_eq!(rt; reader.read_into(&mut source, &mut room), failed);
+    Ok(())
+}
+
 #[test]
 fn samples_of_each_layout_come_back(rt: HostRuntime) -> Result<(), Fail> {
     for bits in 0..0x2_0000u64 {

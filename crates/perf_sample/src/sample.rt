@@ -72,4 +72,24 @@ impl Sample {
             branches: Branches::new(),
         }
     }
+
+    /// Makes every number 0 and removes every branch, where the sample lies: nothing of its 6 KB is
+    /// moved.
+    pub fn clear(&mut self)
+        ensures { self.new ≡ blank }
+    {
+        self.misc = 0;
+        self.identifier = 0;
+        self.ip = 0;
+        self.pid = 0;
+        self.tid = 0;
+        self.time = 0;
+        self.addr = 0;
+        self.id = 0;
+        self.stream_id = 0;
+        self.cpu = 0;
+        self.period = 0;
+        self.hw_index = 0;
+        self.branches.clear();
+    }
 }
