@@ -1,7 +1,7 @@
 // A source over bytes in memory.
-ghost use Rattle.std.specs.Prelude.{◌≡◌, ℕ, ◌<◌, ◌≤◌, Some, None, All, drop, length, min, IfOk};
+ghost use Rattle.std.specs.Prelude.{◌≡◌, ◌↔◌, ℕ, ◌<◌, ◌≤◌, IsTrue, Some, None, All, drop, length, min, IfOk};
 ghost use Rattle.ctr_port.specs.Counts.{Rose};
-ghost use Rattle.ctr_port.specs.Given.{GivesNext};
+ghost use Rattle.ctr_port.specs.Given.{GivesNext, GivesField};
 ghost use Rattle.ctr_port.specs.Script.{limit, after, got_of, reads_failed};
 
 use crate::ends::{Got, NoMemory};
@@ -44,16 +44,34 @@ impl MemSource {
             faults: 0,
         })
     }
-}
 
-impl Source for MemSource {
-    ghost use Rattle.ctr_port.specs.Memory.{left_of, source_plan, source_faults};
+    // Whether a read into so much room gives the eight bytes of a field, since nothing was told of calls and pieces.
+    #[inline(always)]
+    fn gives_field(&self, room: usize) -> bool
+        ensures { IsTrue result ↔ GivesField room (left_of self.now) (source_plan self.now) }
+    {
+        room == 8 && self.bytes.len() - self.at >= 8 && self.script.is_free()
+    }
 
-    ghost left = { λ s. Some (left_of s) };
+    // Gives the next eight bytes. They pass through an array of their own, which overlaps neither side, so that they
+    // are moved as one word.
+    #[inline(always)]
+    fn give_field(&mut self, buf: &mut [u8])
+        requires { GivesField (length buf.old) (left_of self.old) (source_plan self.old) }
+        ensures gives { GivesNext (Some (left_of self.old)) (Some (left_of self.new)) (Got.Bytes 8) buf.new }
+        ensures plan { source_plan self.new ≡ after (source_plan self.old) }
+        ensures faults { source_faults self.new ≡ source_faults self.old }
+    {
+        let mut field = [0; 8];
+        field.copy_from_slice(&self.bytes[self.at..self.at + 8]);
+        buf.copy_from_slice(&field);
+        self.at += 8;
+        self.script.pass();
+    }
 
-    ghost faults = { source_faults };
-
-    fn read(&mut self, buf: &mut [u8]) -> Got
+    // A read of any length, by whatever was told of calls and pieces.
+    #[inline(never)]
+    fn read_piece(&mut self, buf: &mut [u8]) -> Got
         requires { 0 < length buf.old }
         ensures gives { GivesNext (Some (left_of self.old)) (Some (left_of self.new)) result buf.new }
         ensures later { source_faults self.old ≤ source_faults self.new }
@@ -75,5 +93,32 @@ impl Source for MemSource {
                 Got::Bytes(count)
             }
         }
+    }
+}
+
+impl Source for MemSource {
+    ghost use Rattle.ctr_port.specs.Memory.{left_of, source_plan, source_faults};
+
+    ghost left = { λ s. Some (left_of s) };
+
+    ghost faults = { source_faults };
+
+    // Readers of numbers read most of their bytes in fields of eight. What is asked for otherwise is never inlined and
+    // called last, so that nothing is kept across a call here.
+    #[inline(never)]
+    fn read(&mut self, buf: &mut [u8]) -> Got
+        requires { 0 < length buf.old }
+        ensures gives { GivesNext (Some (left_of self.old)) (Some (left_of self.new)) result buf.new }
+        ensures later { source_faults self.old ≤ source_faults self.new }
+        ensures cause { result ≡ Got.Failed → Rose (source_faults self.old) (source_faults self.new) }
+        ensures exact { result ≡ got_of (limit (source_plan self.old) (min (length buf.old) (length (left_of self.old)))) }
+        ensures plan { source_plan self.new ≡ after (source_plan self.old) }
+        ensures count { source_faults self.new ≡ reads_failed result (source_faults self.old) }
+    {
+        if self.gives_field(buf.len()) {
+            self.give_field(buf);
+            return Got::Bytes(8);
+        }
+        self.read_piece(buf)
     }
 }

@@ -1,5 +1,5 @@
 // How an end over memory behaves: the length of each piece and the calls that fail.
-ghost use Rattle.std.specs.Prelude.{◌≡◌, ℕ, ◌<◌, ◌≤◌, IfSome, IfOk};
+ghost use Rattle.std.specs.Prelude.{◌≡◌, ◌↔◌, ℕ, ◌<◌, ◌≤◌, [], IfSome, IfOk, IsTrue};
 ghost use Rattle.ctr_port.specs.Script.{limit, after, Plan};
 
 use crate::ends::NoMemory;
@@ -38,6 +38,22 @@ impl Script {
             failing: Vec::from_slice(alloc, failing)?,
             call: 0,
         })
+    }
+
+    /// Whether no call fails and no piece has a length of its own, so that each call moves as much as it is asked to.
+    #[inline(always)]
+    pub fn is_free(&self) -> bool
+        ensures free { IsTrue result ↔ (self.now.failing ≡ []) × (self.now.pieces ≡ []) }
+    {
+        self.failing.is_empty() && self.pieces.is_empty()
+    }
+
+    /// Counts a call, whatever it moves.
+    #[inline(always)]
+    pub fn pass(&mut self)
+        ensures { self.new ≡ after self.old }
+    {
+        self.call = self.call.saturating_add(1);
     }
 
     /// How many of `most` bytes the next call moves; `None` where that call fails.
