@@ -45,7 +45,8 @@ impl MemSource {
         })
     }
 
-    // Whether a read into so much room gives the eight bytes of a field, since nothing was told of calls and pieces.
+    // Whether a read into so much room gives the eight bytes of a field, since nothing was told of
+    // calls and pieces.
     #[inline(always)]
     fn gives_field(&self, room: usize) -> bool
         ensures { IsTrue result ↔ GivesField room (left_of self.now) (source_plan self.now) }
@@ -53,8 +54,8 @@ impl MemSource {
         room == 8 && self.bytes.len() - self.at >= 8 && self.script.is_free()
     }
 
-    // Gives the next eight bytes. They pass through an array of their own, which overlaps neither side, so that they
-    // are moved as one word.
+    // Gives the next eight bytes. They pass through an array of their own, which overlaps neither
+    // side, so that they are moved as one word.
     #[inline(always)]
     fn give_field(&mut self, buf: &mut [u8])
         requires { GivesField (length buf.old) (left_of self.old) (source_plan self.old) }
@@ -103,8 +104,8 @@ impl Source for MemSource {
 
     ghost faults = { source_faults };
 
-    // Readers of numbers read most of their bytes in fields of eight. What is asked for otherwise is never inlined and
-    // called last, so that nothing is kept across a call here.
+    // Readers of samples take most of their bytes in fields of eight. Every other read is never
+    // inlined and called last, so that nothing is kept across a call here.
     #[inline(never)]
     fn read(&mut self, buf: &mut [u8]) -> Got
         requires { 0 < length buf.old }

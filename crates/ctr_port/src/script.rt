@@ -40,7 +40,8 @@ impl Script {
         })
     }
 
-    /// Whether no call fails and no piece has a length of its own, so that each call moves as much as it is asked to.
+    /// Whether no call fails and no piece has a length of its own, so that each call moves as much
+    /// as it is asked to.
     #[inline(always)]
     pub fn is_free(&self) -> bool
         ensures free { IsTrue result ↔ (self.now.failing ≡ []) × (self.now.pieces ≡ []) }
