@@ -4,25 +4,38 @@ ghost use Rattle.std.specs.Prelude.{◌≡◌, ◌<◌, ◌≤◌, [], ◌∷◌
 ghost use Rattle.perf_sample.specs.BranchRange.{IsBranch};
 
 use crate::sample::Branch;
-use arrayvec::ArrayVec;
+use std::fmt::{self, Debug};
 use std::marker::Model;
 
 /// Up to 256 branches, youngest first. Contracts see the list of them.
-#[derive(Debug, Drop)]
+///
+/// They lie at the front of an array, and what lies behind them is never looked at: a stack is
+/// cleared by a single store.
+#[derive(Drop)]
 pub struct Branches {
-    list: ArrayVec<Branch, 256>,
+    room: [Branch; 256],
+    len: usize,
 }
 
 impl Model for Branches {
-    ghost use Rattle.std.specs.Prelude.{List, ◌≤◌, length, All};
+    ghost use Rattle.std.specs.Prelude.{◌≡◌, List, ◌≤◌, length, take, All};
     ghost use Rattle.perf_sample.specs.BranchRange.{IsBranch};
     ghost use Rattle.perf_sample.specs.declared.sample.Branch.{Branch};
 
     ghost Value = { List Branch };
 
-    ghost view = { λ b. b.list.items };
+    ghost view = { λ b. take b.len b.room };
 
-    ghost invariant = { λ b. (length b.list.items ≤ 256) × All IsBranch b.list.items };
+    ghost invariant = { λ b. (b.len ≤ 256) × (length b.room ≡ 256)
+        × All IsBranch (take b.len b.room) };
+}
+
+impl Debug for Branches {
+    fn fmt<W: fmt::Write>(&self, f: &mut fmt::Formatter<W>) -> fmt::Result {
+        f.debug_struct("Branches")
+            .field("list", &self.items())
+            .finish()
+    }
 }
 
 impl Branches {
@@ -32,7 +45,12 @@ impl Branches {
         ensures { result ≡ [] }
     {
         Branches {
-            list: ArrayVec::new(),
+            room: [Branch {
+                from: 0,
+                to: 0,
+                flags: 0,
+            }; 256],
+            len: 0,
         }
     }
 
@@ -42,7 +60,7 @@ impl Branches {
         ensures fits { length self.now ≤ 256 }
         ensures range { All IsBranch self.now }
     {
-        self.list.as_slice()
+        &self.room[..self.len]
     }
 
     /// Adds a branch that is older than those before it. There is room for 256.
@@ -50,13 +68,14 @@ impl Branches {
         requires { length self.old < 256 }
         ensures { self.new ≡ self.old ++ item ∷ [] }
     {
-        self.list.push(item);
+        self.room[self.len] = item;
+        self.len += 1;
     }
 
     /// Removes every branch.
     pub fn clear(&mut self)
         ensures { self.new ≡ [] }
     {
-        self.list.clear();
+        self.len = 0;
     }
 }
