@@ -91,6 +91,19 @@ fn put_fields(out: &mut Buffer, layout: Layout, sample: &Sample)
     }
 }
 
+// A branch, by one put: the room is tested and the length is set once.
+#[inline(always)]
+#[tactic(auto, unfolding(crate::specs::Spelling::le))]
+fn put_branch(out: &mut Buffer, branch: &Branch)
+    requires { array_vec_len out.old + 24 ≤ 9216 }
+    ensures items { out.new.items ≡ out.old.items ++ branch_bytes branch.now }
+    ensures len { array_vec_len out.new ≡ array_vec_len out.old + 24 }
+{
+    let mut bytes = [0; 24];
+    LittleEndian::write_u64_into(&[branch.from, branch.to, branch.flags], &mut bytes);
+    put(out, &bytes);
+}
+
 fn put_branches(out: &mut Buffer, branches: &[Branch])
     requires few { length branches.now ≤ 256 }
     requires room { array_vec_len out.old ≤ 96 }
@@ -99,9 +112,7 @@ fn put_branches(out: &mut Buffer, branches: &[Branch])
         ≡ array_vec_len out.old + BRANCH_SIZE * length branches.now }
 {
     for branch in branches {
-        put_u64(out, branch.from);
-        put_u64(out, branch.to);
-        put_u64(out, branch.flags);
+        put_branch(out, branch);
     }
 }
 
