@@ -47,17 +47,20 @@ def in_turn(figures_of, times=5):
     return [(min(figures), sorted(figures)[times // 2], max(figures)) for figures in found]
 
 
-def alternating(commands, times=5):
-    """The least, middle and greatest of the seconds that each of some commands takes, run in turn. A command is its words
-    and the path of its standard input."""
-    return in_turn([lambda words=words, path=path: seconds_of_file(words, path) for words, path in commands], times)
+def alternating(commands, times=5, seconds_of=seconds_of_file):
+    """The least, middle and greatest of the seconds that each of some commands takes, run in turn. A command is its
+    words and the path of its standard input; `seconds_of` tells how long one run of it took."""
+    return in_turn([lambda words=words, path=path: seconds_of(words, path) for words, path in commands], times)
 
 
-def spread(name, unit, ours, others):
+def spread(name, unit, ours, others, digits=3):
     """A line like that of `figures`, of the middle of several runs with the least and the greatest."""
-    line = "%-40s %8.3f (%.3f to %.3f) %s" % (name, ours[1], ours[0], ours[2], unit)
+    def told(found):
+        return "%8.*f (%.*f to %.*f)" % (digits, found[1], digits, found[0], digits, found[2])
+
+    line = "%-40s %s %s" % (name, told(ours), unit)
     for label, other in others:
-        line += ", %s %8.3f (%.3f to %.3f), ratio %.2f" % (label, other[1], other[0], other[2], ours[1] / other[1])
+        line += ", %s %s, ratio %.2f" % (label, told(other), ours[1] / other[1])
     print(line, flush=True)
 
 
@@ -90,10 +93,12 @@ def system_calls(command, path, folder):
     return calls["read"], calls["write"]
 
 
-def host_instructions(command, text, folder):
+def host_instructions(command, text, folder, inside=None):
+    """How many instructions a command executes, or how many in the functions of this name and in what they call."""
     out = os.path.join(folder, "callgrind.out")
-    subprocess.run(["valgrind", "--tool=callgrind", "--callgrind-out-file=" + out] + command, input=text,
-                   stdout=subprocess.DEVNULL, stderr=subprocess.DEVNULL, check=True)
+    words = ["valgrind", "--tool=callgrind", "--callgrind-out-file=" + out]
+    words += ["--toggle-collect=" + inside] if inside else []
+    subprocess.run(words + command, input=text, stdout=subprocess.DEVNULL, stderr=subprocess.DEVNULL, check=True)
     with open(out, encoding="utf-8", errors="replace") as f:
         for line in f:
             if line.startswith(("summary:", "totals:")):

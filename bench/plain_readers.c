@@ -1,6 +1,9 @@
 /* A yardstick for bench/readers.py: the same input in plain C, with the same tests of each field and each number; the layout is 803.
-   plain_readers samples|fields|schedule: reads standard input into memory, then prints how many samples or commands there are, and
-   the nanoseconds of processor time that reading took. Samples are read where they lie, or field by field through a call. */
+   plain_readers samples|fields|schedule: reads standard input into memory, then prints how many samples or commands there are, a sum
+   of the numbers that were read, and the nanoseconds of processor time that reading took. Samples are read where they lie, or field
+   by field through a call.
+   plain_readers copy: copies the bytes of a sample of 256 branches as many times as standard input has bytes, and prints how many
+   bytes that were, the sum of one byte of each copy, and the nanoseconds. */
 #include <stdint.h>
 #include <stdio.h>
 #include <stdlib.h>
@@ -36,11 +39,21 @@ __attribute__((noinline)) static size_t sample_at(const uint8_t *p, size_t left,
     return size;
 }
 
-static long samples(const uint8_t *p, size_t len) {
+/* What is summed up, so that nobody's stores are left out: ip, and each branch's numbers. */
+static uint64_t sum;
+
+static void add(const struct sample *s) {
+    sum += s->ip;
+    for (unsigned i = 0; i < s->nr; i++) sum += s->branches[i].from ^ s->branches[i].to ^ s->branches[i].flags;
+}
+
+__attribute__((noinline)) static long samples(const uint8_t *p, size_t len) {
     static struct sample s;
     long count = 0;
-    for (size_t n; len; p += n, len -= n, count++)
+    for (size_t n; len; p += n, len -= n, count++) {
         if (!(n = sample_at(p, len, &s))) return -1;
+        add(&s);
+    }
     return count;
 }
 
@@ -84,12 +97,15 @@ __attribute__((noinline)) static int next_sample(struct source *from, struct sam
     return 1;
 }
 
-static long fields(const uint8_t *p, size_t len) {
+__attribute__((noinline)) static long fields(const uint8_t *p, size_t len) {
     static struct sample s;
     struct source from = {p, len};
     long count = 0;
     int some;
-    while ((some = next_sample(&from, &s)) == 1) count++;
+    while ((some = next_sample(&from, &s)) == 1) {
+        count++;
+        add(&s);
+    }
     return some ? -1 : count;
 }
 
@@ -138,7 +154,7 @@ static int follows(struct mark *m, uint64_t step, uint64_t cause) {
     return 1;
 }
 
-static long schedule(const uint8_t *p, size_t len) {
+__attribute__((noinline)) static long schedule(const uint8_t *p, size_t len) {
     const uint8_t *end = p + len, *to;
     uint64_t v[6], images = 0;
     long count = 0, at = 0, n = 0, m = 0;
@@ -164,10 +180,26 @@ static long schedule(const uint8_t *p, size_t len) {
     for (p += images; (to = line_end(p, end)); p = to + 1, count++) {
         if (line(p, to, "end", 0, -9, v)) return to + 1 == end ? count : -1;
         if (count == 1 << 20) return -1;
-        if (line(p, to, "run", 3, -9, v)) { if (v[2] > 1000000000) return -1; }
+        if (line(p, to, "run", 3, -9, v)) { if (v[2] > 1000000000) return -1; sum += v[2]; }
         else if (!line(p, to, "sample", 1, -9, v) && !line(p, to, "evict", 1, -9, v)) return -1;
     }
     return -1;
+}
+
+static uint8_t *put(uint8_t *p, uint64_t v, int n) { return (uint8_t *)memcpy(p, &v, n) + n; }
+
+/* The sample that write_samples of bench/readers.py writes, copied so many times. */
+__attribute__((noinline)) static long copy(size_t times) {
+    static uint8_t from[32 + 24 * 256], to[sizeof from];
+    uint8_t *p = put(put(put(put(put(from, 9, 4), 3, 2), sizeof from, 2), 0x80000008, 8), 1, 4);
+    p = put(put(p, 1, 4), 256, 8);
+    for (int i = 0; i < 256; i++) p = put(put(put(p, 0x80000000 + 8 * i, 8), 0x80000100 + 8 * i, 8), 2 << 20, 8);
+    for (size_t i = 0; i < times; i++) {
+        memcpy(to, from, sizeof from);
+        __asm__ volatile("" : : "r"(to) : "memory");
+        sum += to[i % sizeof to];
+    }
+    return times * sizeof from;
 }
 
 int main(int argc, char **argv) {
@@ -178,9 +210,10 @@ int main(int argc, char **argv) {
     if (!bytes || argc != 2) return 1;
     struct timespec a, b;
     clock_gettime(CLOCK_THREAD_CPUTIME_ID, &a);
-    long count = argv[1][0] == 'f' ? fields(bytes, len) : strcmp(argv[1], "samples") ? schedule(bytes, len) : samples(bytes, len);
+    long count = argv[1][0] == 'f' ? fields(bytes, len) : argv[1][0] == 'c' ? copy(len)
+        : strcmp(argv[1], "samples") ? schedule(bytes, len) : samples(bytes, len);
     clock_gettime(CLOCK_THREAD_CPUTIME_ID, &b);
     if (count < 0) return 1;
-    printf("%ld %lld\n", count, (b.tv_sec - a.tv_sec) * 1000000000LL + (b.tv_nsec - a.tv_nsec));
+    printf("%ld %llu %lld\n", count, (unsigned long long)sum, (b.tv_sec - a.tv_sec) * 1000000000LL + (b.tv_nsec - a.tv_nsec));
     return 0;
 }
