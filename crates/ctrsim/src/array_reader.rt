@@ -5,16 +5,16 @@ ghost use Rattle.std.specs.Prelude.{◌≤◌};
 use std::io::{Read, Result};
 
 /// How many bytes are asked for at once.
-const ROOM: usize = 65_536;
+const ROOM: usize = 16_384;
 
-/// A reader over another, which it reads in pieces of 65,536 bytes; they are kept in an array.
+/// A reader over another, which it reads in pieces of 16,384 bytes; they are kept in an array.
 #[derive(Drop)]
 pub struct ArrayReader<R: Read> {
     inner: R,
     buffer: [u8; ROOM],
     from: usize,
     to: usize,
-    ghost within: { (from ≤ to) × (to ≤ 65536) },
+    ghost within: { (from ≤ to) × (to ≤ 16384) },
 }
 
 impl<R: Read> ArrayReader<R> {

@@ -147,6 +147,8 @@ fn summary(counter: &Counter) -> Summary
 
 /// Performs so many turns of a schedule of eight tasks on four harts, and writes what its samples
 /// come to.
+// Never inlined: no word pays on the stack for what another word keeps there.
+#[inline(never)]
 pub(crate) fn demo<K: Sink>(
     alloc: Global,
     turns: u32,

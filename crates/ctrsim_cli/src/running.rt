@@ -52,6 +52,8 @@ fn open<S: Source>(
 }
 
 /// Reads a schedule and performs its commands on the harts, each before the next is read.
+// Never inlined: no word pays on the stack for what another word keeps there.
+#[inline(never)]
 pub(crate) fn run<S: Source, K: Sink>(
     alloc: Global,
     source: &mut S,

@@ -77,6 +77,8 @@ fn show_each<S: Source, K: Sink>(
 }
 
 /// Writes the text of each sample of the source, until the input ends or breaks.
+// Never inlined: no word pays on the stack for what another word keeps there.
+#[inline(never)]
 pub fn show<S: Source, K: Sink>(
     layout: Layout,
     source: &mut S,
