@@ -7,7 +7,7 @@ use Rattle.std.proofs.lemmas.Int.{to_z_pos, of_z-to_z}
 use Rattle.std.proofs.lemmas.Nat.Bits.{ones_shr, bit_at_and, bit_at_or, bit_at_not, bit_at_ones, bit_at_ones_above, bit_at-zero, bit_at-lt, bit_at_above, bit_at_cat_low, bit_at_cat_high, same_from_bits_below}
 use Rattle.std.specs.Int.{bit_at, w64, cast_signed, cast_unsigned, int_shr}
 use Rattle.ctr_bits.specs.Field.{field_of, with_field}
-use Rattle.ctr_bits.specs.Sext.{extended}
+use Rattle.ctr_bits.specs.Sext.{sign_extension}
 use Rattle.ctr_bits.specs.SextLaws.{extended_fits}
 use Rattle.ctr_bits.specs.FieldBits.{put_bit_below, put_bit_inside, put_bit_above}
 use Rattle.ctr_bits.specs.FieldLaws.{put_fits}
@@ -145,7 +145,7 @@ back_above value bits above room some high fits =
     ∙ omega (arith, fits, bound)
 
 pub back_again : (value bits : ℕ) → 1 ≤ bits → bits ≤ 64 → value < 2 ^ bits
-    → cast_unsigned w64 (int_shr (cast_signed w64 (value * 2 ^ (64 - bits) % 2 ^ 64)) (64 - bits)) ≡ extended bits value
+    → cast_unsigned w64 (int_shr (cast_signed w64 (value * 2 ^ (64 - bits) % 2 ^ 64)) (64 - bits)) ≡ sign_extension bits value
 back_again value bits some room fits =
     let above = 64 - bits in
     let whole = moved_whole value above bits (omega arith) fits in
@@ -157,7 +157,7 @@ back_again value bits some room fits =
 
 -- the code's word, whose signed reading is taken and given back once more
 pub sext_is : (value bits : ℕ) → 1 ≤ bits → bits ≤ 64 → value < 2 ^ bits
-    → cast_unsigned w64 (cast_signed w64 (cast_unsigned w64 (int_shr (cast_signed w64 (value * 2 ^ (64 - bits) % 2 ^ 64)) (64 - bits)))) ≡ extended bits value
+    → cast_unsigned w64 (cast_signed w64 (cast_unsigned w64 (int_shr (cast_signed w64 (value * 2 ^ (64 - bits) % 2 ^ 64)) (64 - bits)))) ≡ sign_extension bits value
 sext_is value bits some room fits =
     ap (λ (n : ℕ). cast_unsigned w64 (cast_signed w64 n)) (back_again value bits some room fits)
-    ∙ of_z-to_z w64 (extended bits value) (extended_fits bits value room fits)
+    ∙ of_z-to_z w64 (sign_extension bits value) (extended_fits bits value room fits)

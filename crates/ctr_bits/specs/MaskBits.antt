@@ -6,7 +6,7 @@ use Rattle.std.proofs.lemmas.Nat.Bits.{bit_at_and, bit_at_or, bit_at_not, bit_at
 use Rattle.std.specs.Int.{bit_at, w64}
 use Rattle.std.specs.Int.Bits.{and_self}
 use Rattle.ctr_bits.specs.Field.{field_of, with_field}
-use Rattle.ctr_bits.specs.Mask.{merged}
+use Rattle.ctr_bits.specs.Mask.{with_masked}
 use Rattle.ctr_bits.specs.FieldBits.{same_field, bit_of_field, put_bit_below, put_bit_above}
 use Rattle.ctr_bits.specs.FieldLaws.{same_in_parts}
 use Rattle.ctr_bits.specs.MaskLaws.{NarrowerMaskCounts, MaskTwice, FieldOfMasked, FieldInMask, FieldOffMask, PutLeavesMask, PutStaysWithin, MergedOnMask, MergedOffMask, MergedStaysWithin, MergedFits, FieldOfMergedIn, FieldOfMergedOff}
@@ -58,7 +58,7 @@ put_stays_within lo len mask word value fits whole within =
 
 -- a bit of a masked write
 pub merged_bit : (mask old value i : ℕ) → mask < 2 ^ 64 → i < 64
-    → bit_at (merged mask old value) i ≡ max (min (bit_at old i) (1 - bit_at mask i)) (min (bit_at value i) (bit_at mask i))
+    → bit_at (with_masked mask old value) i ≡ max (min (bit_at old i) (1 - bit_at mask i)) (min (bit_at value i) (bit_at mask i))
 merged_bit mask old value i small p =
     let off = bit_and old (2 ^ 64 - 1 - mask) in
     let on = bit_and value mask in
@@ -66,20 +66,20 @@ merged_bit mask old value i small p =
 
 pub merged_on_mask : MergedOnMask
 merged_on_mask mask old value small =
-    let new = merged mask old value in
+    let new = with_masked mask old value in
     same_from_bits_below 64 (bit_and new mask) (bit_and value mask) (omega (arith, and_le_r new mask)) (omega (arith, and_le_r value mask)) (λ i p.
     omega (arith, bit_at_and new mask i, bit_at_and value mask i, merged_bit mask old value i small p, bit_at-lt mask i, bit_at-lt value i, bit_at-lt old i))
 
 pub merged_off_mask : MergedOffMask
 merged_off_mask mask others old value small few apart =
-    let new = merged mask old value in
+    let new = with_masked mask old value in
     same_from_bits_below 64 (bit_and new others) (bit_and old others) (omega (arith, and_le_r new others)) (omega (arith, and_le_r old others)) (λ i p.
     let none : min (bit_at mask i) (bit_at others i) ≡ 0 = sym (bit_at_and mask others i) ∙ ap (λ (n : ℕ). bit_at n i) apart ∙ bit_at-zero i in
     omega (arith, bit_at_and new others i, bit_at_and old others i, merged_bit mask old value i small p, none, bit_at-lt mask i, bit_at-lt others i, bit_at-lt value i, bit_at-lt old i))
 
 pub merged_stays_within : MergedStaysWithin
 merged_stays_within mask kept old value wider within =
-    let new = merged mask old value in
+    let new = with_masked mask old value in
     let not = 2 ^ 64 - 1 - mask in
     let off = bit_and old not in
     let on = bit_and value mask in
@@ -92,9 +92,9 @@ merged_fits mask old value small =
     (omega (arith, and_le_r old (2 ^ 64 - 1 - mask))) (omega (arith, and_le_r value mask))
 
 pub field_of_merged_in : FieldOfMergedIn
-field_of_merged_in lo len mask old value small room whole = same_field lo len (merged mask old value) value (λ i p q.
+field_of_merged_in lo len mask old value small room whole = same_field lo len (with_masked mask old value) value (λ i p q.
     omega (arith, merged_bit mask old value i small (omega arith), bit_of_whole lo len mask i whole p q, bit_at-lt value i))
 
 pub field_of_merged_off : FieldOfMergedOff
-field_of_merged_off lo len mask old value small room none = same_field lo len (merged mask old value) old (λ i p q.
+field_of_merged_off lo len mask old value small room none = same_field lo len (with_masked mask old value) old (λ i p q.
     omega (arith, merged_bit mask old value i small (omega arith), bit_of_none lo len mask i none p q, bit_at-lt old i))

@@ -1,4 +1,4 @@
--- Laws of sign extension: what is extended stands for the number that the bits stood for
+-- Laws of sign extension: what is sign_extension stands for the number that the bits stood for
 -- (Unprivileged ISA, the immediates of the base formats: each is a number in two's complement).
 use Rattle.std.specs.Prelude.{ℕ, ℤ, ◌≡◌, ◌+◌, ◌-◌, ◌*◌, ◌/◌, ◌%◌, ◌^◌, ◌<◌, ◌≤◌, Bool, true, false, cond, ltb, pos, ◌-ℤ◌}
 use Rattle.std.proofs.Common.{sym, ◌∙◌, ap, inl, inr, arith}
@@ -7,7 +7,7 @@ use Rattle.std.proofs.lemmas.Bool.{cases_lt, lt-ltb, le-ltb, cond-true, cond-fal
 use Rattle.std.proofs.lemmas.Nat.{div-add-mod', pow-add}
 use Rattle.std.proofs.lemmas.Int.{ints}
 use Rattle.std.specs.Int.{w64, cast_signed}
-use Rattle.ctr_bits.specs.Sext.{extended}
+use Rattle.ctr_bits.specs.Sext.{sign_extension}
 
 -- the two's complement number of so many bits: the highest weighs - 2 ^ (bits - 1), and those below
 -- it are a whole number
@@ -17,11 +17,11 @@ number_of bits value = pos (value % 2 ^ (bits - 1)) -ℤ pos (value / 2 ^ (bits 
 abbrev pub ExtendedIsNumber : Type 0
 ExtendedIsNumber =
     (bits value : ℕ) → 1 ≤ bits → bits ≤ 64 → value < 2 ^ bits
-    → cast_signed w64 (extended bits value) ≡ number_of bits value
+    → cast_signed w64 (sign_extension bits value) ≡ number_of bits value
 
 -- and is a word of 64 bits
 abbrev pub ExtendedFits : Type 0
-ExtendedFits = (bits value : ℕ) → bits ≤ 64 → value < 2 ^ bits → extended bits value < 2 ^ 64
+ExtendedFits = (bits value : ℕ) → bits ≤ 64 → value < 2 ^ bits → sign_extension bits value < 2 ^ 64
 
 -- a word by its highest bit
 pub sign_clear : (word low high : ℕ) → word < 2 ^ 63 → low ≡ word + high

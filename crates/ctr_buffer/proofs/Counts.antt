@@ -1,11 +1,11 @@
--- The pointer of a history, counted by additions alone.
+-- The pointer of a history, pointer_after by additions alone.
 use Rattle.std.proofs.Common.{◌≡◌, ℕ, ◌+◌, ◌-◌, ◌*◌, ◌%◌, ◌<◌, List, count_by, ◌∙◌, ap, arith}
 use Rattle.std.proofs.Math.Nat.{mod-add-mod, add-mul-mod_self_left, mul-add, mul-one, mul_comm}
 use Rattle.std.proofs.lemmas.Nat.{mod_below}
 use Rattle.ctr_csrs.specs.Depths.{entries_of}
 use Rattle.ctr_csrs.specs.RegisterLaws.{least_entries}
 use Rattle.ctr_buffer.specs.declared.event.Event.{Event}
-use Rattle.ctr_buffer.specs.History.{IsCounted, HasPointer, counted, deep_of, is_push, is_pop, pointer_of, set_from, since}
+use Rattle.ctr_buffer.specs.History.{IsCounted, HasPointer, pointer_after, deep_of, is_push, is_pop, pointer_of, set_from, since}
 
 -- a pop that counts as one less than the size, and itself, are the size
 pub with_itself : (size place pushes pops : ℕ) → 0 < size
@@ -19,7 +19,7 @@ with_itself size place pushes pops some =
     let product : pops * (size - 1 + 1) ≡ pops * size = ap (λ (n : ℕ). pops * n) all in
     omega (arith, shared, one, turned, turned_all, product)
 
-pub counted_is : (size place : ℕ) (events : List Event) → 0 < size → IsCounted size place events (counted size place events)
+pub counted_is : (size place : ℕ) (events : List Event) → 0 < size → IsCounted size place events (pointer_after size place events)
 counted_is size place events some =
     let pushes = count_by is_push events in
     let pops = count_by is_pop events in

@@ -6,7 +6,7 @@ use Rattle.std.proofs.lemmas.List.{drop_all, get_or-take, get_or-drop, get_or_ap
 use Rattle.std.proofs.lemmas.List.FromFn.{length-map-range_with_len, get_or-map-range_with_len}
 use Rattle.std.proofs.lemmas.Nat.{mod_below}
 use Rattle.ctr_buffer.specs.Entry.{Entry, zero_entry}
-use Rattle.ctr_buffer.specs.Stack.{Stack, turned_slots, turned}
+use Rattle.ctr_buffer.specs.Stack.{Stack, turned_slots, after_turn}
 use Rattle.ctr_csrs.specs.Depths.{entries_of}
 use Rattle.ctr_csrs.specs.declared.depth.Depth.{Depth}
 
@@ -73,7 +73,7 @@ turn_list old new xs old_within new_within =
 -- the array after a turn of its first part
 pub turn_stack : (depth : Depth) (old new : ℕ) (xs ys : List Entry) → entries_of depth ≤ length xs → new < entries_of depth
     → ys ≡ turned_slots (length (take (entries_of depth) xs)) old new (take (entries_of depth) xs)
-    → stack depth (take (entries_of depth) (ys ++ drop (entries_of depth) xs)) new ≡ turned (stack depth (take (entries_of depth) xs) old) new
+    → stack depth (take (entries_of depth) (ys ++ drop (entries_of depth) xs)) new ≡ after_turn (stack depth (take (entries_of depth) xs) old) new
 turn_stack depth old new xs ys room within is =
     let size = entries_of depth in
     let front = take size xs in

@@ -12,7 +12,7 @@ use Rattle.ctr_csrs.specs.Depths.{entries_of}
 use Rattle.ctr_csrs.specs.RegisterLaws.{most_entries}
 use Rattle.ctr_buffer.specs.Entry.{Entry, zero_entry, unlinked}
 use Rattle.ctr_buffer.specs.Ring.{IsRing, place_of, ring_slots, ring_stack}
-use Rattle.ctr_buffer.specs.Stack.{first_last, pushed, popped, poked, turned, turned_slots}
+use Rattle.ctr_buffer.specs.Stack.{first_last, after_push, after_pop, after_poke, after_turn, turned_slots}
 use Rattle.ctr_buffer.proofs.Moves.{stack, same_slots, mod_once}
 
 -- numbers that are equal or one modulus apart
@@ -236,14 +236,14 @@ room depth ring full = omega (arith, full, most_entries depth)
 
 -- each call, as the stack that the ring means
 pub push_ring : (depth : Depth) (p : ℕ) (ring : List Entry) (e : Entry) → IsRing depth p ring
-    → ring_stack depth ((p + 1) % entries_of depth) (slice_set ring p e) ≡ pushed (ring_stack depth p ring) e
+    → ring_stack depth ((p + 1) % entries_of depth) (slice_set ring p e) ≡ after_push (ring_stack depth p ring) e
 push_ring depth p ring e is =
     let size = entries_of depth in
     same_slots depth ((p + 1) % size) _ _ (push_slots size p ((p + 1) % size) ring e is.within (room depth ring is.full) (next_cases size p is.within))
 
 pub pop_ring : (depth : Depth) (p : ℕ) (ring : List Entry) (other : Entry) → IsRing depth p ring
     → ring_stack depth (place_of (entries_of depth) p 0) (slice_set ring (place_of (entries_of depth) p 0) (unlinked (get_or ring (place_of (entries_of depth) p 0) other)))
-    ≡ popped (ring_stack depth p ring)
+    ≡ after_pop (ring_stack depth p ring)
 pop_ring depth p ring other is =
     let size = entries_of depth in
     let at = place_of size p 0 in
@@ -255,11 +255,11 @@ pop_ring depth p ring other is =
     ∙ ap (λ (n : ℕ). stack depth (first_last (ring_slots size p ring)) (n % size)) back
 
 pub set_ring : (depth : Depth) (p i : ℕ) (ring : List Entry) (e : Entry) → IsRing depth p ring → i < entries_of depth
-    → ring_stack depth p (slice_set ring (place_of (entries_of depth) p i) e) ≡ poked (ring_stack depth p ring) i e
+    → ring_stack depth p (slice_set ring (place_of (entries_of depth) p i) e) ≡ after_poke (ring_stack depth p ring) i e
 set_ring depth p i ring e is inside = same_slots depth p _ _ (set_slots (entries_of depth) p i ring e is.within inside (room depth ring is.full))
 
 pub turn_ring : (depth : Depth) (p w : ℕ) (ring : List Entry) → IsRing depth p ring → w < entries_of depth
-    → ring_stack depth w ring ≡ turned (ring_stack depth p ring) w
+    → ring_stack depth w ring ≡ after_turn (ring_stack depth p ring) w
 turn_ring depth p w ring is w_in =
     let few : w % entries_of depth ≡ w = mod-eq_of_lt w_in in
     rw few (same_slots depth w _ _ (turn_slots (entries_of depth) p w ring is.within w_in))

@@ -14,7 +14,7 @@ use Rattle.ctr_buffer.specs.declared.event.Event.TheVariants.{Push, Swap, Pop, C
 use Rattle.ctr_buffer.specs.Entry.{Entry, is_valid, unlinked, valid_entries, zero_entry}
 use Rattle.ctr_buffer.specs.History.{CanTake, after, stack_of, deep_from, deep_of}
 use Rattle.ctr_buffer.specs.HistoryLaws.{stays, empty_is}
-use Rattle.ctr_buffer.specs.Stack.{Stack, IsStack, size_of, empty, pushed, popped, swapped, cleared, first_last}
+use Rattle.ctr_buffer.specs.Stack.{Stack, IsStack, size_of, empty, after_push, after_pop, after_swap, after_clear, first_last}
 use Rattle.ctr_buffer.specs.Visible.{HeldIsVisible, HaveTransfers, HasTransfer, IsItem, IsUnwritten, TakenHaveTransfers, ValidAreVisible, empties, is_write, since_emptied}
 use Rattle.ctr_buffer.proofs.Kept.{Keep, VisibleIn, from_visible_in, to_visible_in}
 
@@ -132,12 +132,12 @@ pub from_all : (s : Stack) (events : List Event) (k : ℕ) (r : Entry) → IsSta
 from_all s [] k r is of h = inl (k, h, refl)
 from_all s (Push e ∷ later) k r is of h =
     push_from (size_of s) s.slots e later k r is.full
-    (from_all (pushed s e) later k r (stays s (Push e) is) of.1 h)
+    (from_all (after_push s e) later k r (stays s (Push e) is) of.1 h)
 from_all s (Pop ∷ later) k r is of h =
-    pop_from (size_of s) s.slots later k r (from_all (popped s) later k r (stays s Pop is) of.1 h)
+    pop_from (size_of s) s.slots later k r (from_all (after_pop s) later k r (stays s Pop is) of.1 h)
 from_all s (Swap e ∷ later) k r is of h =
     swap_from (size_of s) s.slots e later k r
-    (from_all (swapped s e) later k r (stays s (Swap e) is) of.1 h)
+    (from_all (after_swap s e) later k r (stays s (Swap e) is) of.1 h)
 from_all s (Clear ∷ later) k r is of h = absurd of.0
 from_all s (SetDepth d ∷ later) k r is of h = absurd of.0
 from_all s (Turn w ∷ later) k r is of h = absurd of.0
@@ -150,12 +150,12 @@ to_all s [] k r is of (inl (i, h, e)) =
     (ap (λ (n : ℕ). get_or s.slots n zero_entry) (sym e) ∙ h.0, h.1)
 to_all s [] k r is of (inr v) = absurd v
 to_all s (Push e ∷ later) k r is of f =
-    to_all (pushed s e) later k r (stays s (Push e) is) of.1
+    to_all (after_push s e) later k r (stays s (Push e) is) of.1
     (push_to (size_of s) s.slots e later k r of.0 f)
 to_all s (Pop ∷ later) k r is of f =
-    to_all (popped s) later k r (stays s Pop is) of.1 (pop_to (size_of s) s.slots later k r f)
+    to_all (after_pop s) later k r (stays s Pop is) of.1 (pop_to (size_of s) s.slots later k r f)
 to_all s (Swap e ∷ later) k r is of f =
-    to_all (swapped s e) later k r (stays s (Swap e) is) of.1
+    to_all (after_swap s e) later k r (stays s (Swap e) is) of.1
     (swap_to (size_of s) s.slots e later k r of.0
     (omega (arith, is.full, least_entries s.depth)) f)
 to_all s (Clear ∷ later) k r is of f = absurd of.0
@@ -195,7 +195,7 @@ emptied s (Poke i part value ∷ later) is some =
     rw some (emptied (after s (Poke i part value)) later (stays s (Poke i part value) is) some)
 emptied s (Clear ∷ later) is some = elim (cases_Bool (list_any empties later)) [
   | inl more ↦ rw more (emptied (after s Clear) later (stays s Clear is) more)
-  | inr none ↦ rw none (cleared s, stays s Clear is, refl, sym (no_depth s.depth later none), refl)
+  | inr none ↦ rw none (after_clear s, stays s Clear is, refl, sym (no_depth s.depth later none), refl)
 ]
 emptied s (SetDepth d ∷ later) is some = elim (cases_Bool (list_any empties later)) [
   | inl more ↦ rw more (emptied (after s (SetDepth d)) later (stays s (SetDepth d) is) more)
@@ -361,10 +361,10 @@ pub no_gaps : (s : Stack) (events : List Event) → AreOfTransfers events → Ha
     → HasNoGaps (fold after s events).slots
 no_gaps s [] of h = h
 no_gaps s (Push e ∷ later) of h =
-    no_gaps (pushed s e) later of.1 (pushed_no_gaps (size_of s - 1) s.slots e of.0 h)
-no_gaps s (Pop ∷ later) of h = no_gaps (popped s) later of.1 (popped_no_gaps s.slots h)
+    no_gaps (after_push s e) later of.1 (pushed_no_gaps (size_of s - 1) s.slots e of.0 h)
+no_gaps s (Pop ∷ later) of h = no_gaps (after_pop s) later of.1 (popped_no_gaps s.slots h)
 no_gaps s (Swap e ∷ later) of h =
-    no_gaps (swapped s e) later of.1 (swapped_no_gaps s.slots e of.0 h)
+    no_gaps (after_swap s e) later of.1 (swapped_no_gaps s.slots e of.0 h)
 no_gaps s (Clear ∷ later) of h = absurd of.0
 no_gaps s (SetDepth d ∷ later) of h = absurd of.0
 no_gaps s (Turn w ∷ later) of h = absurd of.0

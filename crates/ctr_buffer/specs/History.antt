@@ -9,17 +9,17 @@ use Rattle.ctr_csrs.specs.Depths.{entries_of}
 use Rattle.ctr_buffer.specs.declared.event.Event.{Event}
 use Rattle.ctr_buffer.specs.declared.event.Event.TheVariants.{Push, Swap, Pop, Clear, SetDepth, Turn, Poke}
 use Rattle.ctr_buffer.specs.Entry.{FitsPart, is_valid, with_part}
-use Rattle.ctr_buffer.specs.Stack.{Stack, size_of, empty, pushed, popped, swapped, cleared, turned, poked, entry_at}
+use Rattle.ctr_buffer.specs.Stack.{Stack, size_of, empty, after_push, after_pop, after_swap, after_clear, after_turn, after_poke, entry_at}
 
 -- what a stack becomes by an event
 abbrev pub after : Stack → Event → Stack
-after s (Push e) = pushed s e
-after s (Swap e) = swapped s e
-after s Pop = popped s
-after s Clear = cleared s
+after s (Push e) = after_push s e
+after s (Swap e) = after_swap s e
+after s Pop = after_pop s
+after s Clear = after_clear s
 after s (SetDepth depth) = empty depth
-after s (Turn w) = turned s w
-after s (Poke i part value) = poked s i (with_part (entry_at s i) part value)
+after s (Turn w) = after_turn s w
+after s (Poke i part value) = after_poke s i (with_part (entry_at s i) part value)
 
 -- a history begins with the depth
 abbrev pub IsHistory : List Event → Type 0
@@ -67,17 +67,17 @@ is_pop Pop = true
 is_pop _ = false
 
 -- modulo the depth: a place, plus the pushes, less the pops, each of which counts as one less than the depth
-abbrev pub counted : ℕ → ℕ → List Event → ℕ
-counted size place events = (place + count_by is_push events + (size - 1) * count_by is_pop events) % size
+abbrev pub pointer_after : ℕ → ℕ → List Event → ℕ
+pointer_after size place events = (place + count_by is_push events + (size - 1) * count_by is_pop events) % size
 
 -- the same by additions alone: together with the pops it is the place and the pushes, modulo the depth
 pub record IsCounted (size place : ℕ) (events : List Event) (pointer : ℕ) : Type 0 where
   pub within : pointer < size
   pub sum : (pointer + count_by is_pop events) % size ≡ (place + count_by is_push events) % size
 
--- the pointer after a history, counted from its events
+-- the pointer after a history, pointer_after from its events
 abbrev pub pointer_from : Depth → ℕ → List Event → ℕ
-pointer_from depth start history = counted (entries_of (deep_from depth history)) (set_from start history) (since history)
+pointer_from depth start history = pointer_after (entries_of (deep_from depth history)) (set_from start history) (since history)
 
 abbrev pub deep_of : List Event → Depth
 deep_of history = deep_from D16 history

@@ -13,7 +13,7 @@ use Rattle.ctr_csrs.specs.RegisterLaws.{least_entries}
 use Rattle.ctr_buffer.specs.declared.event.Event.{Event}
 use Rattle.ctr_buffer.specs.declared.event.Event.TheVariants.{Push, Swap, Pop, Clear, SetDepth, Turn, Poke}
 use Rattle.ctr_buffer.specs.Entry.{Entry, zero_entry, unlinked, with_part}
-use Rattle.ctr_buffer.specs.History.{IsHistory, after, stack_of, deep_from, sets_pointer, place_set, set_from, since, is_push, is_pop, counted, pointer_from}
+use Rattle.ctr_buffer.specs.History.{IsHistory, after, stack_of, deep_from, sets_pointer, place_set, set_from, since, is_push, is_pop, pointer_after, pointer_from}
 use Rattle.ctr_buffer.specs.Stack.{Stack, IsStack, size_of, empty, first_last, entry_at}
 
 -- a history begins with a depth, so what the buffer held before it is no matter
@@ -133,7 +133,7 @@ mod_first size a pushes pops =
 
 -- an event and then a count is the count with the event
 pub count_step : (s : Stack) (e : Event) (later : List Event)
-    → counted (size_of (after s e)) (after s e).pointer later ≡ counted (size_of (after s e)) (place_set s.pointer e) (cond (sets_pointer e) later (e ∷ later))
+    → pointer_after (size_of (after s e)) (after s e).pointer later ≡ pointer_after (size_of (after s e)) (place_set s.pointer e) (cond (sets_pointer e) later (e ∷ later))
 count_step s (Push e) later =
     let size = size_of s in
     let pushes = count_by is_push later in
@@ -155,21 +155,21 @@ count_step s (SetDepth d) later = refl
 count_step s (Turn w) later = mod_first (size_of s) w (count_by is_push later) ((size_of s - 1) * count_by is_pop later)
 count_step s (Poke i part value) later = refl
 
--- the pointer that each event moves is the pointer that is counted
+-- the pointer that each event moves is the pointer that is pointer_after
 pub pointer_follows : (s : Stack) (history : List Event) → IsStack s → (fold after s history).pointer ≡ pointer_from s.depth s.pointer history
 pointer_follows s [] is =
     let none : s.pointer + 0 + (size_of s - 1) * 0 ≡ s.pointer = omega arith in
     rw none (sym (mod-eq_of_lt is.within))
 pointer_follows s (e ∷ later) is =
     let next = after s e in
-    let rest : (fold after next later).pointer ≡ counted (entries_of (deep_from next.depth later)) (set_from next.pointer later) (since later) =
+    let rest : (fold after next later).pointer ≡ pointer_after (entries_of (deep_from next.depth later)) (set_from next.pointer later) (since later) =
     pointer_follows next later (stays s e is) in
     elim (cases_Bool (list_any sets_pointer later)) [
       | inl sets ↦ rw (sets, deep_step s e later, some_set s.pointer next.pointer later sets) rest
       | inr never ↦ rw (never, deep_step s e later, none_deep next.depth later never)
           (rest
-          ∙ ap (λ (d : Depth). counted (entries_of d) (set_from next.pointer later) (since later)) (none_deep next.depth later never)
-          ∙ ap (λ (n : ℕ). counted (size_of next) n (since later)) (none_set next.pointer later never)
-          ∙ ap (λ (es : List Event). counted (size_of next) next.pointer es) (none_since later never)
+          ∙ ap (λ (d : Depth). pointer_after (entries_of d) (set_from next.pointer later) (since later)) (none_deep next.depth later never)
+          ∙ ap (λ (n : ℕ). pointer_after (size_of next) n (since later)) (none_set next.pointer later never)
+          ∙ ap (λ (es : List Event). pointer_after (size_of next) next.pointer es) (none_since later never)
           ∙ count_step s e later)
     ]

@@ -1,5 +1,5 @@
 ghost use Rattle.std.specs.Prelude.{◌≡◌, ◌<◌, slice_get};
-ghost use Rattle.ctr_buffer.specs.Stack.{Stack, IsStack, size_of, empty, pushed, popped, swapped, cleared, turned, resized, poked};
+ghost use Rattle.ctr_buffer.specs.Stack.{Stack, IsStack, size_of, empty, after_push, after_pop, after_swap, after_clear, after_turn, after_resize, after_poke};
 
 use crate::slot::Slot;
 use ctr_csrs::Depth;
@@ -31,31 +31,31 @@ pub trait CtrStore {
     /// Replaces slot `i` alone.
     fn set_slot(&mut self, i: u16, s: Slot)
         requires { i < size_of (means self.old) }
-        ensures { means self.new ≡ poked (means self.old) i s };
+        ensures { means self.new ≡ after_poke (means self.old) i s };
 
     /// Puts a slot first, loses the last, and moves WRPTR on by 1 modulo the depth.
     fn push(&mut self, s: Slot)
-        ensures { means self.new ≡ pushed (means self.old) s };
+        ensures { means self.new ≡ after_push (means self.old) s };
 
     /// Puts the first slot last with V cleared, and moves WRPTR back by 1 modulo the depth.
     fn pop(&mut self)
-        ensures { means self.new ≡ popped (means self.old) };
+        ensures { means self.new ≡ after_pop (means self.old) };
 
     /// Replaces the first slot. WRPTR stays.
     fn swap(&mut self, s: Slot)
-        ensures { means self.new ≡ swapped (means self.old) s };
+        ensures { means self.new ≡ after_swap (means self.old) s };
 
     /// Makes every slot the zero slot. WRPTR stays.
     fn clear(&mut self)
-        ensures { means self.new ≡ cleared (means self.old) };
+        ensures { means self.new ≡ after_clear (means self.old) };
 
     /// Moves WRPTR, below the depth, and so which slot is the youngest: slot `i` is what slot `(old - new + i)` modulo
     /// the depth was.
     fn set_wrptr(&mut self, w: u8)
         requires { w < size_of (means self.old) }
-        ensures { means self.new ≡ turned (means self.old) w };
+        ensures { means self.new ≡ after_turn (means self.old) w };
 
     /// Gives another depth, zero slots and WRPTR 0. The same depth changes nothing.
     fn set_depth(&mut self, d: Depth)
-        ensures { means self.new ≡ resized (means self.old) d };
+        ensures { means self.new ≡ after_resize (means self.old) d };
 }

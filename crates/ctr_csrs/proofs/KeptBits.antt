@@ -1,7 +1,7 @@
 -- Which bits the masks of the control registers keep.
 use Rattle.std.proofs.Common.{◌≡◌, ℕ, ◌&&◌, if◌then◌else◌, false, bit_and, nat_eq, refl, ap, lit<, lit≤}
 use Rattle.ctr_bits.specs.Field.{field_of}
-use Rattle.ctr_bits.specs.Mask.{merged}
+use Rattle.ctr_bits.specs.Mask.{with_masked}
 use Rattle.ctr_bits.specs.MaskBits.{field_in_mask, field_off_mask, field_of_merged_in, field_of_merged_off}
 use Rattle.ctr_csrs.specs.ControlFigure.{is_on, is_shown, place_of, m_mask, s_mask}
 use Rattle.ctr_csrs.specs.declared.control_bit.ControlBit.{ControlBit}
@@ -63,7 +63,7 @@ s_keeps word Indljmpinh = is_kept word s_mask Indljmpinh refl
 s_keeps word Dirljmpinh = is_kept word s_mask Dirljmpinh refl
 
 -- a write through sctrctl takes those from the value, and the two others from the old word
-pub s_merges : (old value : ℕ) (bit : ControlBit) → is_on (merged s_mask old value) bit ≡ (if is_shown bit then is_on value bit else is_on old bit)
+pub s_merges : (old value : ℕ) (bit : ControlBit) → is_on (with_masked s_mask old value) bit ≡ (if is_shown bit then is_on value bit else is_on old bit)
 s_merges old value U = ap (λ (n : ℕ). nat_eq n 1) (field_of_merged_in (place_of U) 1 s_mask old value (lit< tt) (lit≤ tt) refl)
 s_merges old value S = ap (λ (n : ℕ). nat_eq n 1) (field_of_merged_in (place_of S) 1 s_mask old value (lit< tt) (lit≤ tt) refl)
 s_merges old value M = ap (λ (n : ℕ). nat_eq n 1) (field_of_merged_off (place_of M) 1 s_mask old value (lit< tt) (lit≤ tt) refl)

@@ -1,5 +1,5 @@
 ghost use Rattle.std.specs.Prelude.{◌≡◌, ◌&&◌, bit_and, if◌then◌else◌};
-ghost use Rattle.ctr_bits.specs.Mask.{merged};
+ghost use Rattle.ctr_bits.specs.Mask.{with_masked};
 ghost use Rattle.ctr_csrs.specs.ControlFigure.{is_on, is_shown, m_mask, s_mask};
 ghost use Rattle.ctr_csrs.specs.declared.control_bit.ControlBit.{ControlBit};
 
@@ -61,7 +61,7 @@ pub fn legal_m(value: u64) -> Control
 
 /// What `mctrctl` holds after a write of `value` to `sctrctl`: M and MTE stay as they were.
 pub fn legal_s(old: Control, value: u64) -> Control
-    ensures word { result ≡ merged s_mask old value }
+    ensures word { result ≡ with_masked s_mask old value }
     ensures bits { (bit : ControlBit) → is_on result bit ≡ (if is_shown bit then is_on value bit else is_on old bit) }
 {
     Control {

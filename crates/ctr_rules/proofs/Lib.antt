@@ -1,2 +1,3 @@
 pub mod PickedRow
 mod BitLemmas
+mod AddressLemmas

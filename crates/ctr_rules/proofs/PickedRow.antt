@@ -1,6 +1,6 @@
 -- At most one row holds, and the function picks it.
 use Rattle.std.proofs.Common.{◌≡◌, ◌≢◌, ℕ, ◌%◌, Bool, true, false, cond, not, ◌&&◌, Option, Some, None, refl, sym, ◌∙◌, ap}
-use Rattle.ctr_rules.specs.Admitted.{view_of, holds, NoRow, row_of, act_by, admitted, IsEven, RecordsItsOwn}
+use Rattle.ctr_rules.specs.Admitted.{view_of, holds, NoRow, row_of, act_by, act_under, IsEven, RecordsItsOwn}
 use Rattle.ctr_rules.specs.FreezeBits.{freezes}
 use Rattle.ctr_rules.specs.RowTable.{Row, EmulatedCall, EmulatedReturn, EmulatedSwap, Within, TrapIn, ReturnOut, TrapOut, View, fits, act_of}
 use Rattle.ctr_rules.specs.declared.transfer.Act.{Act}
@@ -160,7 +160,7 @@ decided_row false false c o r t h e = ap (λ (p : Option Row). act_by p t) e
 decided_row false true c o r t h e = absurd (cc h)
 decided_row true b c o r t h e = absurd (cc h)
 
-pub row_decides : (t : Transfer) (m vs : ℕ) (frozen : Bool) (r : Row) → holds r t m vs frozen ≡ true → admitted t m vs frozen ≡ act_of r t
+pub row_decides : (t : Transfer) (m vs : ℕ) (frozen : Bool) (r : Row) → holds r t m vs frozen ≡ true → act_under t m vs frozen ≡ act_of r t
 row_decides t m vs frozen r h =
     let v = view_of t m vs in
     decided_row frozen (freezes t m vs) (fits r v) (row_of v) r t h (fitting r v (third frozen (freezes t m vs) (fits r v) h))
@@ -170,7 +170,7 @@ decided_nothing true b o t none other = refl
 decided_nothing false true o t none other = absurd (other refl)
 decided_nothing false false o t none other = ap (λ (p : Option Row). act_by p t) (none refl)
 
-pub nothing_else : (frozen : Bool) (t : Transfer) (m vs : ℕ) → NoRow t m vs frozen → admitted t m vs frozen ≢ Freeze → admitted t m vs frozen ≡ Nothing
+pub nothing_else : (frozen : Bool) (t : Transfer) (m vs : ℕ) → NoRow t m vs frozen → act_under t m vs frozen ≢ Freeze → act_under t m vs frozen ≡ Nothing
 nothing_else frozen t m vs none other =
     let v = view_of t m vs in
     decided_nothing frozen (freezes t m vs) (row_of v) t

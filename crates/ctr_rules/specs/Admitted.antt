@@ -1,10 +1,11 @@
 -- What a transfer does to the records (RISC-V Control Transfer Records 1.0, "RAS Emulation Mode",
 -- "Transfer Type Filtering", "External Traps" and "Freeze").
-use Rattle.std.specs.Prelude.{true, false, ℕ, ◌≡◌, ◌%◌, Bool, cond, not, ◌&&◌, Option, Some, None}
+use Rattle.std.specs.Prelude.{true, false, ℕ, ◌≡◌, ◌%◌, Bool, cond, not, ◌&&◌, ◌||◌, Option, Some, None}
 use Rattle.ctr_csrs.specs.declared.control_bit.ControlBit.TheVariants.{Rasemu}
 use Rattle.ctr_csrs.specs.ControlFigure.{is_on}
 use Rattle.ctr_rules.specs.declared.transfer.Act.{Act}
 use Rattle.ctr_rules.specs.declared.transfer.Act.TheVariants.{Nothing, Push, Swap, Freeze}
+use Rattle.ctr_rules.specs.declared.transfer.Record.{Record}
 use Rattle.ctr_rules.specs.declared.transfer.Transfer.{Transfer}
 use Rattle.xfer_class.specs.declared.types.XferType.{XferType}
 use Rattle.xfer_class.specs.declared.types.XferType.TheVariants.{NotTaken, Taken}
@@ -56,8 +57,8 @@ act_by (Some row) t = act_of row t
 act_by None t = Nothing
 
 -- Nothing where FROZEN is set, else Freeze where the transfer sets it, else the act of the row that fits, if there is one
-abbrev pub admitted : Transfer → ℕ → ℕ → Bool → Act
-admitted t m vs frozen = cond frozen Nothing (cond (freezes t m vs) Freeze (act_by (row_of (view_of t m vs)) t))
+abbrev pub act_under : Transfer → ℕ → ℕ → Bool → Act
+act_under t m vs frozen = cond frozen Nothing (cond (freezes t m vs) Freeze (act_by (row_of (view_of t m vs)) t))
 
 -- the addresses that an act records are multiples of 2
 abbrev pub IsEven : Act → Type 0
@@ -76,3 +77,19 @@ abbrev pub RecordsItsOwn : Transfer → Act → Type 0
 RecordsItsOwn t (Push r) = (r.kind ≡ t.kind) × (r.misp ≡ t.misp)
 RecordsItsOwn t (Swap r) = (r.kind ≡ t.kind) × (r.misp ≡ t.misp)
 RecordsItsOwn t _ = Unit {0}
+
+-- what is recorded of a transfer: the address of each of its modes that is enabled, and 0 in the
+-- place of the other's; one of the two is enabled
+pub record IsOfModes (m vs : ℕ) (t : Transfer) (r : Record) : Type 0 where
+  pub source : r.source ≡ cond (enables m vs t.from) t.source 0
+  pub target : r.target ≡ cond (enables m vs t.to) t.target 0
+  pub enabled : (enables m vs t.from || enables m vs t.to) ≡ true
+
+abbrev pub RecordsByMode : ℕ → ℕ → Transfer → Act → Type 0
+RecordsByMode m vs t (Push r) = IsOfModes m vs t r
+RecordsByMode m vs t (Swap r) = IsOfModes m vs t r
+RecordsByMode m vs t _ = Unit {0}
+
+abbrev pub AddressesByMode : Type 0
+AddressesByMode =
+    (t : Transfer) (m vs : ℕ) (frozen : Bool) → RecordsByMode m vs t (act_under t m vs frozen)

@@ -1,5 +1,5 @@
 ghost use Rattle.std.specs.Prelude.{◌≡◌, ◌≢◌, ◌↔◌, ◌%◌, true, false};
-ghost use Rattle.ctr_rules.specs.Admitted.{admitted, holds, NoRow, OneRow, act_by, row_of, view_of, IsEven, is_branch, RecordsItsOwn};
+ghost use Rattle.ctr_rules.specs.Admitted.{act_under, holds, NoRow, OneRow, act_by, row_of, view_of, IsEven, is_branch, RecordsItsOwn, AddressesByMode};
 ghost use Rattle.ctr_rules.specs.FreezeBits.{freezes};
 ghost use Rattle.ctr_rules.specs.Asked.{emulated_act};
 ghost use Rattle.ctr_rules.specs.RowTable.{Row, act_of, record_of};
@@ -21,7 +21,7 @@ use xfer_class::XferType;
 #[inline(always)]
 pub fn act(transfer: Transfer, m: Control, vs: Control, frozen: bool) -> Act
     requires misp { transfer.misp ≡ true → is_branch transfer.kind ≡ true }
-    ensures is { result ≡ admitted transfer m vs frozen }
+    ensures is { result ≡ act_under transfer m vs frozen }
     ensures freeze { (result ≡ Act.Freeze) ↔ ((frozen ≡ false) × (freezes transfer m vs ≡ true)) }
 
     // The rows of the table stand in no order: whichever holds, its act is the answer.
@@ -110,4 +110,7 @@ fn record_of(transfer: Transfer, source: u64, target: u64) -> Record
 /// Laws of the table, of every transfer and all controls: a proof and no work.
 pub fn row_laws()
     ensures one_row { OneRow }
+
+    // The address of a mode that isn't enabled is recorded as 0, and no other address is.
+    ensures addresses { AddressesByMode }
 {}

@@ -317,6 +317,8 @@ const RASEMU: u64 = 0x80;
 
 const STE_MTE: u64 = 0x300;
 
+const BPFRZ: u64 = 0x800;
+
 const LCOFIFRZ: u64 = 0x1000;
 
 const EXCINH: u64 = 0x2_0000_0000;
@@ -324,6 +326,20 @@ const EXCINH: u64 = 0x2_0000_0000;
 const INTRINH: u64 = 0x4_0000_0000;
 
 const TRETINH: u64 = 0x8_0000_0000;
+
+fn check(rt: &impl Abort, row: Row) {
+    assert_eq!(rt;
+        act(
+            transfer(row.from, row.to, row.kind),
+            legal_m(row.m),
+            legal_vs(row.vs),
+            false,
+        ),
+        row.want,
+        "{}",
+        row.what
+    );
+}
 
 fn pushes(source: u64, target: u64, kind: XferType) -> Act {
     Act::Push(record(source, target, kind))
@@ -437,17 +453,7 @@ fn a_filter_counts_for_traps_in_and_returns_out_and_not_for_external_traps(rt: H
             what: "an external exception, which no filter keeps out",
         },
     ] {
-        assert_eq!(rt;
-            act(
-                transfer(row.from, row.to, row.kind),
-                legal_m(row.m),
-                legal_vs(row.vs),
-                false,
-            ),
-            row.want,
-            "{}",
-            row.what
-        );
+        check(&rt, row);
     }
 }
 
@@ -463,6 +469,136 @@ fn an_overflow_into_s_freezes_by_mctrctl_alone(rt: HostRuntime) {
             act(overflow, legal_m(m), legal_vs(vs), false),
             want,
             "mctrctl {m:#x}, vsctrctl {vs:#x}"
+        );
+    }
+}
+
+// A trap of a type between modes under two controls, and whether it sets FROZEN.
+fn trap_act(from: Mode, to: Mode, kind: XferType, m: u64, vs: u64) -> Act {
+    let trap = Transfer {
+        breakpoint: kind == XferType::Exception,
+        lcofi: kind == XferType::Interrupt,
+        ..transfer(from, to, kind)
+    };
+    act(trap, legal_m(m), legal_vs(vs), false)
+}
+
+// RISC-V Control Transfer Records 1.0, "Freeze": the register of the mode that the trap goes to,
+// vsctrctl for VS and mctrctl for M and S, wherever the trap comes from.
+#[test]
+fn a_freeze_goes_by_the_mode_that_the_trap_goes_to(rt: HostRuntime) {
+    let breakpoint = XferType::Exception;
+    let overflow = XferType::Interrupt;
+    for (from, to, kind, m, vs, want) in [
+        (Mode::Vu, Mode::S, breakpoint, BPFRZ, 0, Act::Freeze),
+        (Mode::Vu, Mode::S, breakpoint, 0, BPFRZ, Act::Nothing),
+        (Mode::Vs, Mode::M, breakpoint, 0, BPFRZ, Act::Nothing),
+        (Mode::Vs, Mode::M, breakpoint, BPFRZ, 0, Act::Freeze),
+        (Mode::Vu, Mode::M, overflow, LCOFIFRZ, 0, Act::Freeze),
+        (Mode::Vu, Mode::M, overflow, 0, LCOFIFRZ, Act::Nothing),
+        (Mode::Vu, Mode::Vs, overflow, 0, LCOFIFRZ, Act::Freeze),
+        (Mode::Vu, Mode::Vs, overflow, LCOFIFRZ, 0, Act::Nothing),
+    ] {
+        assert_eq!(rt;
+            trap_act(from, to, kind, m, vs),
+            want,
+            "{kind:?} from {from:?} to {to:?} under {m:x} and {vs:x}"
+        );
+    }
+    for from in MODES {
+        for to in [Mode::M, Mode::S, Mode::Vs] {
+            for (kind, bit) in [(breakpoint, BPFRZ), (overflow, LCOFIFRZ)] {
+                let (by_m, by_vs) = match to {
+                    Mode::Vs => (Act::Nothing, Act::Freeze),
+                    _ => (Act::Freeze, Act::Nothing),
+                };
+                assert_eq!(rt;
+                    trap_act(from, to, kind, bit, 0),
+                    by_m,
+                    "{kind:?} from {from:?} to {to:?} by mctrctl"
+                );
+                assert_eq!(rt;
+                    trap_act(from, to, kind, 0, bit),
+                    by_vs,
+                    "{kind:?} from {from:?} to {to:?} by vsctrctl"
+                );
+            }
+        }
+    }
+}
+
+// RISC-V Control Transfer Records 1.0, "Virtualization Mode Transitions".
+#[test]
+fn between_v_0_and_v_1_the_filters_of_vsctrctl_count(rt: HostRuntime) {
+    let exception = XferType::Exception;
+    for row in [
+        Row {
+            from: Mode::Vu,
+            to: Mode::M,
+            kind: exception,
+            m: M,
+            vs: EXCINH | U,
+            want: Act::Nothing,
+            what: "an exception of VU into M, inhibited by vsctrctl",
+        },
+        Row {
+            from: Mode::Vu,
+            to: Mode::M,
+            kind: exception,
+            m: EXCINH | M,
+            vs: U,
+            want: pushes(SOURCE, TARGET, exception),
+            what: "an exception of VU into M, which mctrctl doesn't inhibit",
+        },
+    ] {
+        check(&rt, row);
+    }
+    // Each pair of modes with another V, both of them enabled.
+    for host in [Mode::M, Mode::S] {
+        for guest in [Mode::Vs, Mode::Vu] {
+            for (from, to, kind, bit) in [
+                (guest, host, XferType::Exception, EXCINH),
+                (guest, host, XferType::Interrupt, INTRINH),
+                (host, guest, XferType::TrapReturn, TRETINH),
+            ] {
+                let whole = pushes(SOURCE, TARGET, kind);
+                let jump = transfer(from, to, kind);
+                let by_vs = act(jump, legal_m(M | S), legal_vs(bit | U | S), false);
+                assert_eq!(rt; by_vs, Act::Nothing, "{kind:?} from {from:?} to {to:?}");
+                let by_m = act(jump, legal_m(bit | M | S), legal_vs(U | S), false);
+                assert_eq!(rt; by_m, whole, "{kind:?} from {from:?} to {to:?}");
+            }
+        }
+    }
+}
+
+// RISC-V Control Transfer Records 1.0, "RAS Emulation Mode": with it no trap and no return from one
+// is recorded, also where one of the two modes isn't enabled; a freeze comes all the same.
+#[test]
+fn under_emulation_a_trap_into_or_out_of_an_enabled_mode_is_not_recorded(rt: HostRuntime) {
+    for (from, to, kind, m) in [
+        (Mode::U, Mode::M, XferType::Exception, RASEMU | STE_MTE | U),
+        (Mode::U, Mode::M, XferType::Exception, RASEMU | M),
+        (Mode::U, Mode::M, XferType::Interrupt, RASEMU | STE_MTE | U),
+        (Mode::U, Mode::M, XferType::Interrupt, RASEMU | M),
+        (Mode::M, Mode::U, XferType::TrapReturn, RASEMU | M),
+        (Mode::M, Mode::U, XferType::TrapReturn, RASEMU | U),
+    ] {
+        assert_eq!(rt;
+            act(transfer(from, to, kind), legal_m(m), legal_vs(0), false),
+            Act::Nothing,
+            "{kind:?} from {from:?} to {to:?} under {m:x}"
+        );
+    }
+    for (from, kind, m) in [
+        (Mode::M, XferType::Exception, BPFRZ | RASEMU | M),
+        (Mode::U, XferType::Exception, BPFRZ | RASEMU | U),
+        (Mode::M, XferType::Interrupt, LCOFIFRZ | RASEMU | M),
+    ] {
+        assert_eq!(rt;
+            trap_act(from, Mode::M, kind, m, 0),
+            Act::Freeze,
+            "{kind:?} from {from:?} under {m:x}"
         );
     }
 }

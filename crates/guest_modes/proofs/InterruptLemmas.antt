@@ -1,16 +1,14 @@
 -- The bits of the masks of interrupts and exceptions, one by one up to the highest.
-use Rattle.std.proofs.Common.{ℕ, zero, suc, ◌≡◌, ◌%◌, ◌^◌, ◌<◌, ◌≤◌, Bool, true, false, ◌&&◌, ◌||◌, not, nat_eq, ltb, List, [], ◌∷◌, bit_and, refl, sym, subst, ◌∙◌, ap, inl, inr, arith, lit<}
+use Rattle.std.proofs.Common.{ℕ, zero, suc, ◌≡◌, ◌%◌, ◌^◌, ◌<◌, ◌≤◌, Bool, true, false, ◌&&◌, ◌||◌, not, nat_eq, nat_lt, ltb, List, [], ◌∷◌, bit_and, refl, sym, subst, ◌∙◌, ap, inl, inr, arith, lit<}
 use Rattle.std.specs.List.{list_all}
 use Rattle.std.proofs.lemmas.Bool.{cases_lt, cases_Bool, eqb-true, ne_eqb, le-ltb, ltb-true, and_parts, or_cases, both_ways}
 use Rattle.std.proofs.Math.Nat.{div-eq_of_lt, pow-le-pow_right}
+use Rattle.guest_modes.specs.declared.causes.TheConstants.{INTERRUPTS}
 use Rattle.guest_modes.specs.declared.targets.Trap.TheVariants.{Exception}
-use Rattle.guest_modes.specs.InterruptLaws.{MaskIsInterrupts, MaskHasInterrupts, InterruptsWithin, DelegatesExceptions}
+use Rattle.guest_modes.specs.InterruptLaws.{MaskHasInterrupts, InterruptsWithin, DelegatesInterrupts, DelegatesExceptions}
 use Rattle.guest_modes.specs.Numbers.{is_in}
 use Rattle.guest_modes.specs.Traps.{interrupt_order, is_cause}
 use Rattle.guest_modes.specs.Words.{is_on}
-
-pub mask_is_interrupts : MaskIsInterrupts
-mask_is_interrupts = refl
 
 abbrev pub same : Bool → Bool → Bool
 same true b = b
@@ -54,27 +52,50 @@ passes_in test (m ∷ ms) n e all =
       | inr later ↦ passes_in test ms n later parts.1
     ]
 
-pub none_above : (i : ℕ) → 14 ≤ i → is_in i interrupt_order ≡ false
-none_above i above = elim (cases_Bool (is_in i interrupt_order)) [
+pub none_above : (places : List ℕ) (n i : ℕ) → list_all (λ (k : ℕ). ltb k n) places ≡ true
+    → n ≤ i → is_in i places ≡ false
+none_above places n i all above = elim (cases_Bool (is_in i places)) [
   | inl there ↦
-      let less : i < 14 =
-      ltb-true i 14 (passes_in (λ (n : ℕ). ltb n 14) interrupt_order i there refl) in
+      let less : i < n = ltb-true i n (passes_in (λ (k : ℕ). ltb k n) places i there all) in
       absurd (omega (arith, less, above))
   | inr gone ↦ gone
 ]
 
-pub mask_has_interrupts : MaskHasInterrupts
-mask_has_interrupts i = elim (cases_lt i 14) [
-  | inl below ↦
-      same_is (is_on 0x2EEE i) (is_in i interrupt_order)
-      (below_passes 14 (λ (n : ℕ). same (is_on 0x2EEE n) (is_in n interrupt_order)) i refl below)
-  | inr above ↦ off_above 0x2EEE 14 i (lit< tt) above ∙ sym (none_above i above)
+-- a mask has a bit where a test says so, as it is below some place, and nothing stands above it
+pub mask_is : (mask n : ℕ) (there : ℕ → Bool) → mask < 2 ^ n
+    → all_below n (λ (i : ℕ). same (is_on mask i) (there i)) ≡ true
+    → ((i : ℕ) → n ≤ i → there i ≡ false) → (i : ℕ) → is_on mask i ≡ there i
+mask_is mask n there fits below none i = elim (cases_lt i n) [
+  | inl less ↦
+      same_is (is_on mask i) (there i)
+      (below_passes n (λ (k : ℕ). same (is_on mask k) (there k)) i below less)
+  | inr above ↦ off_above mask n i fits above ∙ sym (none i above)
 ]
+
+-- the same of a list of places
+pub mask_has : (mask n : ℕ) (places : List ℕ) → mask < 2 ^ n
+    → all_below n (λ (i : ℕ). same (is_on mask i) (is_in i places)) ≡ true
+    → list_all (λ (k : ℕ). ltb k n) places ≡ true → (i : ℕ) → is_on mask i ≡ is_in i places
+mask_has mask n places fits below all =
+    mask_is mask n (λ (i : ℕ). is_in i places) fits below
+    (λ (i : ℕ) (above : n ≤ i). none_above places n i all above)
+
+pub interrupts_has : (i : ℕ) → is_on INTERRUPTS i ≡ is_in i interrupt_order
+interrupts_has = mask_has 0x2EEE 14 interrupt_order (lit< tt) refl refl
+
+pub mask_has_interrupts : MaskHasInterrupts
+mask_has_interrupts p = record { word = refl; mask = refl; bits = interrupts_has }
+
+pub delegates_interrupts : DelegatesInterrupts
+delegates_interrupts p = record {
+  machine = mask_has 0x2666 14 (1 ∷ 2 ∷ 5 ∷ 6 ∷ 9 ∷ 10 ∷ 13 ∷ []) (lit< tt) refl refl;
+  hypervisor = mask_has 0x2444 14 (2 ∷ 6 ∷ 10 ∷ 13 ∷ []) (lit< tt) refl refl;
+}
 
 pub interrupts_within : InterruptsWithin
 interrupts_within i is =
-    eqb-true (bit_and (2 ^ i) 0x2EEE) (2 ^ i)
-    (passes_in (λ (n : ℕ). nat_eq (bit_and (2 ^ n) 0x2EEE) (2 ^ n)) interrupt_order i is refl)
+    eqb-true (bit_and (2 ^ i) INTERRUPTS) (2 ^ i)
+    (passes_in (λ (n : ℕ). nat_eq (bit_and (2 ^ n) INTERRUPTS) (2 ^ n)) interrupt_order i is refl)
 
 abbrev pub delegable : ℕ → Bool
 delegable c = is_cause (Exception c) && not (nat_eq c 11)
@@ -85,10 +106,11 @@ not_delegable c above =
     let other : nat_eq c 22 ≡ false = ne_eqb c 22 (λ e. omega (arith, e, above)) in
     λ k. (low k || other k) && not (nat_eq c 11)
 
+pub not_below_nine : (c : ℕ) → 9 ≤ c → nat_lt c 9 ≡ false
+not_below_nine c above = le-ltb c 9 above
+
 pub delegates_exceptions : DelegatesExceptions
-delegates_exceptions c = elim (cases_lt c 23) [
-  | inl below ↦
-      same_is (is_on 0x4007FF c) (delegable c)
-      (below_passes 23 (λ (n : ℕ). same (is_on 0x4007FF n) (delegable n)) c refl below)
-  | inr above ↦ off_above 0x4007FF 23 c (lit< tt) above ∙ sym (not_delegable c above)
-]
+delegates_exceptions p = record {
+  machine = mask_is 0x4007FF 23 delegable (lit< tt) refl not_delegable;
+  hypervisor = mask_is 0x1FF 9 (λ (c : ℕ). nat_lt c 9) (lit< tt) refl not_below_nine;
+}

@@ -4,3 +4,4 @@ mod QuietLemmas
 mod ViewLemmas
 mod StatusLemmas
 mod InterruptLemmas
+mod TrapLemmas

@@ -4,7 +4,7 @@ use Rattle.std.proofs.lemmas.Bool.{and_parts, and_from, or_cases, or_left, or_ri
 use Rattle.ctr_csrs.specs.declared.mode.Mode.{Mode}
 use Rattle.ctr_csrs.specs.declared.mode.Mode.TheVariants.{M, S, U, Vs, Vu}
 use Rattle.guest_modes.specs.declared.registers.Priv.{Priv}
-use Rattle.guest_modes.specs.Interrupts.{allows, is_candidate, first_of, first_for, or_else, picked, rank, place_in, lateness, IsCandidate, IsFirst, NoCandidate}
+use Rattle.guest_modes.specs.Interrupts.{allows, is_candidate, first_of, first_for, or_else, next_interrupt, rank, place_in, lateness, IsCandidate, IsFirst, NoCandidate}
 use Rattle.guest_modes.specs.Numbers.{is_in}
 use Rattle.guest_modes.specs.Traps.{interrupt_taker, is_same, interrupt_order, is_trap_between}
 use Rattle.guest_modes.specs.Words.{is_on}
@@ -216,8 +216,8 @@ first_vs p from i none_m none_s e =
       ];
     }
 
--- the interrupt that is picked is the first one
-pub picked_is_first : (p : Priv) (from : Mode) (i : ℕ) → picked p from ≡ Some i → IsFirst p from i
+-- the interrupt that is next_interrupt is the first one
+pub picked_is_first : (p : Priv) (from : Mode) (i : ℕ) → next_interrupt p from ≡ Some i → IsFirst p from i
 picked_is_first p from i e = split (first_for p from M) (first_for p from S) (first_for p from Vs) refl refl refl
   where
     split : (m s vs : Option ℕ) → first_for p from M ≡ m → first_for p from S ≡ s → first_for p from Vs ≡ vs → IsFirst p from i
@@ -232,8 +232,8 @@ picked_is_first p from i e = split (first_for p from M) (first_for p from S) (fi
         ap (λ (o : Option ℕ). or_else o (first_for p from Vs)) (sym b) ∙ ap (λ (o : Option ℕ). or_else o (or_else (first_for p from S) (first_for p from Vs))) (sym a) ∙ e in
         first_vs p from i a b found
 
--- where none is picked there is no candidate
-pub none_is_picked : (p : Priv) (from : Mode) → picked p from ≡ None → NoCandidate p from
+-- where none is next_interrupt there is no candidate
+pub none_is_picked : (p : Priv) (from : Mode) → next_interrupt p from ≡ None → NoCandidate p from
 none_is_picked p from e i candidate = split (first_for p from M) (first_for p from S) (first_for p from Vs) refl refl refl
   where
     split : (m s vs : Option ℕ) → first_for p from M ≡ m → first_for p from S ≡ s → first_for p from Vs ≡ vs → ⊥
@@ -251,11 +251,11 @@ none_is_picked p from e i candidate = split (first_for p from M) (first_for p fr
           | inr below ↦ elim below [ inl s ↦ none_for p from S i b candidate s | inr vs ↦ none_for p from Vs i found candidate vs ]
         ]
 
--- what is said of an answer that is the picked interrupt
-pub answer_is_first : (p : Priv) (from : Mode) (o : Option ℕ) → o ≡ picked p from → (i : ℕ) → (o ≡ Some i) ↔ IsFirst p from i
+-- what is said of an answer that is the next_interrupt interrupt
+pub answer_is_first : (p : Priv) (from : Mode) (o : Option ℕ) → o ≡ next_interrupt p from → (i : ℕ) → (o ≡ Some i) ↔ IsFirst p from i
 answer_is_first p from o e i = (λ found. picked_is_first p from i (sym e ∙ found), λ first. only o e first)
   where
-    only : (o : Option ℕ) → o ≡ picked p from → IsFirst p from i → o ≡ Some i
+    only : (o : Option ℕ) → o ≡ next_interrupt p from → IsFirst p from i → o ≡ Some i
     only None e first = absurd (none_is_picked p from (sym e) i first.candidate)
     only (Some k) e first = elim (cases_eq k i) [
       | inl same ↦ ap (λ (n : ℕ). Some n) same
@@ -266,14 +266,14 @@ answer_is_first p from o e i = (λ found. picked_is_first p from i (sym e ∙ fo
           absurd (omega (arith, sooner, later))
     ]
 
-pub answer_is_none : (p : Priv) (from : Mode) (o : Option ℕ) → o ≡ picked p from → IsNone o ↔ NoCandidate p from
+pub answer_is_none : (p : Priv) (from : Mode) (o : Option ℕ) → o ≡ next_interrupt p from → IsNone o ↔ NoCandidate p from
 answer_is_none p from None e = (λ _. none_is_picked p from (sym e), λ _. refl)
 answer_is_none p from (Some i) e = (λ h. absurd (cc), λ none. absurd (none i (picked_is_first p from i (sym e)).candidate))
 
-pub answer_is_cause : (p : Priv) (from : Mode) (o : Option ℕ) → o ≡ picked p from → IfSome o (λ i. IsTrue (is_in i interrupt_order))
+pub answer_is_cause : (p : Priv) (from : Mode) (o : Option ℕ) → o ≡ next_interrupt p from → IfSome o (λ i. IsTrue (is_in i interrupt_order))
 answer_is_cause p from None e = tt
 answer_is_cause p from (Some i) e = (and_parts (is_in i interrupt_order) (is_candidate p from i) (picked_is_first p from i (sym e)).candidate).0
 
-pub answer_is_between : (p : Priv) (from : Mode) (o : Option ℕ) → o ≡ picked p from → IfSome o (λ i. IsTrue (is_trap_between from (interrupt_taker p i)))
+pub answer_is_between : (p : Priv) (from : Mode) (o : Option ℕ) → o ≡ next_interrupt p from → IfSome o (λ i. IsTrue (is_trap_between from (interrupt_taker p i)))
 answer_is_between p from None e = tt
 answer_is_between p from (Some i) e = candidate_is_between p from i (picked_is_first p from i (sym e)).candidate

@@ -7,7 +7,7 @@ use Rattle.std.specs.Int.{bit_at}
 use Rattle.ctr_csrs.specs.declared.mode.Mode.{Mode}
 use Rattle.ctr_csrs.specs.declared.mode.Mode.TheVariants.{M, S, Vs}
 use Rattle.guest_modes.specs.declared.registers.Priv.{Priv}
-use Rattle.guest_modes.specs.Interrupts.{is_candidate, first_of, picked}
+use Rattle.guest_modes.specs.Interrupts.{is_candidate, first_of, next_interrupt}
 use Rattle.guest_modes.specs.Traps.{interrupt_taker, is_same, interrupt_order}
 use Rattle.guest_modes.specs.Words.{is_on}
 
@@ -33,11 +33,11 @@ pub none_first : (p : Priv) (from to : Mode) (ns : List ℕ) → bit_and p.mip p
 none_first p from to [] none = refl
 none_first p from to (n ∷ ns) none = rw (quiet p from n none) (none_first p from to ns none)
 
-pub none_picked : (p : Priv) (from : Mode) → bit_and p.mip p.mie ≡ 0 → picked p from ≡ None
+pub none_picked : (p : Priv) (from : Mode) → bit_and p.mip p.mie ≡ 0 → next_interrupt p from ≡ None
 none_picked p from none =
     rw (none_first p from M interrupt_order none, none_first p from S interrupt_order none, none_first p from Vs interrupt_order none) refl
 
-pub none_where_quiet : (p : Priv) (a b : ℕ) → a ≡ p.mip → b ≡ p.mie → OnTrue (nat_eq (bit_and a b) 0) ((mode : Mode) → picked p mode ≡ None)
+pub none_where_quiet : (p : Priv) (a b : ℕ) → a ≡ p.mip → b ≡ p.mie → OnTrue (nat_eq (bit_and a b) 0) ((mode : Mode) → next_interrupt p mode ≡ None)
 none_where_quiet p a b is_mip is_mie = elim (cases_Bool (nat_eq (bit_and a b) 0)) [
   | inl on ↦ rw on (λ (mode : Mode). none_picked p mode (rw (sym is_mip, sym is_mie) (eqb-true (bit_and a b) 0 on)))
   | inr off ↦ rw off tt

@@ -11,7 +11,7 @@ use Rattle.ctr_csrs.specs.Modes.{is_virtual}
 use Rattle.guest_modes.specs.declared.registers.Priv.{Priv}
 use Rattle.guest_modes.specs.declared.returning.Ret.TheVariants.{Mret, SretHs, SretVs}
 use Rattle.guest_modes.specs.declared.targets.Trap.{Trap}
-use Rattle.guest_modes.specs.Entry.{nominal, supervisor, guest, guest_left, entered_in}
+use Rattle.guest_modes.specs.Entry.{nominal, supervisor, guest, guest_left, after_trap_to}
 use Rattle.guest_modes.specs.FactLemmas.{nominal_fits, supervisor_fits, guest_fits, bit_fits}
 use Rattle.guest_modes.specs.Returns.{mode_of, mode_after, pc_after}
 use Rattle.guest_modes.specs.StatusLaws.{bit_of, is_machine, is_supervisor, MachineEntry, SupervisorEntry, HypervisorEntry, StatusesEntered, EntryBits, MachineReturn, SupervisorReturn, HypervisorReturn, ReturnBits, return_from, ReturnGoesBack}
@@ -174,7 +174,7 @@ hypervisor_entry Vs w = entry_from_guest Vs w 1 refl refl (lit< tt)
 hypervisor_entry Vu w = entry_from_guest Vu w 0 refl refl (lit< tt)
 
 pub entry_in : (to : Mode) (p : Priv) (from : Mode) (t : Trap) (pc value : ℕ)
-    → StatusesEntered to from p (entered_in to p from t pc value)
+    → StatusesEntered to from p (after_trap_to to p from t pc value)
 entry_in M p from t pc value = (machine_entry from p.mstatus, refl, refl)
 entry_in S p from t pc value =
     (supervisor_entry from p.mstatus, hypervisor_entry from p.hstatus, refl)
@@ -334,8 +334,8 @@ target_is_taker p from (Interrupt i) =
 
 pub goes_back_from : (to : Mode) (p : Priv) (from : Mode) (t : Trap) (pc value : ℕ) → IsTaker to
     → IsTrue (is_trap_between from to)
-    → (mode_after (entered_in to p from t pc value) (return_from to) ≡ from)
-    × (pc_after (entered_in to p from t pc value) (return_from to) ≡ pc)
+    → (mode_after (after_trap_to to p from t pc value) (return_from to) ≡ from)
+    × (pc_after (after_trap_to to p from t pc value) (return_from to) ≡ pc)
 goes_back_from M p from t pc value taker between =
     (back_from_m p.mstatus (field_of 3 1 p.mstatus) from (bit_fits 3 p.mstatus), refl)
 goes_back_from S p from t pc value taker between =

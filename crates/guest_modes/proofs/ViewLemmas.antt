@@ -1,19 +1,22 @@
 -- Views of registers, bit by bit.
-use Rattle.std.proofs.Common.{ℕ, ◌≡◌, ◌≢◌, ◌*◌, ◌/◌, ◌^◌, ◌<◌, ◌≤◌, min, max, suc, Bool, true, ◌||◌, nat_eq, bit_and, bit_or, ◌⊎◌, inl, inr, refl, ◌∙◌, ap, arith, lit<}
-use Rattle.std.proofs.lemmas.Bool.{agree_below_at, or_cases, eqb-true, cases_lt}
+use Rattle.std.proofs.Common.{ℕ, ◌≡◌, ◌≢◌, ◌*◌, ◌/◌, ◌^◌, ◌<◌, ◌≤◌, min, max, suc, Bool, true, false, ◌&&◌, ◌||◌, cond, nat_eq, List, [], ◌∷◌, bit_and, bit_or, ◌⊎◌, inl, inr, refl, sym, ◌∙◌, ap, arith, lit<}
+use Rattle.std.proofs.lemmas.Bool.{agree_below_at, or_cases, eqb-true, eqb-false, cases_lt, cases_Bool}
 use Rattle.std.proofs.lemmas.Nat.{and_le_r, or_lt, shl-shr}
 use Rattle.std.proofs.lemmas.Nat.Bits.{bit_at-suc, bit_at_and, bit_at_or, bit_at-pow_other, bit_at_above, bit_at-lt}
 use Rattle.std.specs.Int.{bit_at}
-use Rattle.ctr_bits.specs.Mask.{merged}
+use Rattle.ctr_bits.specs.Mask.{with_masked}
 use Rattle.ctr_bits.specs.MaskBits.{merged_bit}
 use Rattle.guest_modes.specs.declared.registers.Priv.{Priv}
 use Rattle.guest_modes.specs.Registers.{shown, lowered, lifted}
-use Rattle.guest_modes.specs.Views.{IsGuestView, IsLifted}
+use Rattle.guest_modes.specs.Numbers.{is_in}
+use Rattle.guest_modes.specs.Views.{IsGuestView, IsLifted, supervisor_bits, guest_bits}
+use Rattle.guest_modes.specs.Words.{is_on}
+use Rattle.guest_modes.proofs.InterruptLemmas.{mask_has}
 
-pub merged_inside : (mask old word i : ℕ) → mask < 2 ^ 64 → i < 64 → bit_at mask i ≡ 1 → bit_at (merged mask old word) i ≡ bit_at word i
+pub merged_inside : (mask old word i : ℕ) → mask < 2 ^ 64 → i < 64 → bit_at mask i ≡ 1 → bit_at (with_masked mask old word) i ≡ bit_at word i
 merged_inside mask old word i small p e = omega (arith, merged_bit mask old word i small p, e, bit_at-lt word i, bit_at-lt old i)
 
-pub merged_outside : (mask old word i : ℕ) → mask < 2 ^ 64 → i < 64 → bit_at mask i ≡ 0 → bit_at (merged mask old word) i ≡ bit_at old i
+pub merged_outside : (mask old word i : ℕ) → mask < 2 ^ 64 → i < 64 → bit_at mask i ≡ 0 → bit_at (with_masked mask old word) i ≡ bit_at old i
 merged_outside mask old word i small p e = omega (arith, merged_bit mask old word i small p, e, bit_at-lt word i, bit_at-lt old i)
 
 pub part_fits : (word part : ℕ) → part < 2 ^ 64 → bit_and word part < 2 ^ 64
@@ -78,3 +81,82 @@ is_lifted v = record {
   external = omega (arith, lifted_bit v 9, bit_at-lt v 9);
   overflow = omega (arith, lifted_bit v 12, bit_at-lt v 13, bit_at-lt v 12);
 }
+
+-- a bit as a number, and as what a test says of it
+abbrev pub bit_of : Bool → ℕ
+bit_of b = cond b 1 0
+
+pub bit_is : (w i : ℕ) → bit_at w i ≡ bit_of (is_on w i)
+bit_is w i = elim (cases_Bool (is_on w i)) [
+  | inl on ↦ eqb-true (bit_at w i) 1 on ∙ ap bit_of (sym on)
+  | inr off ↦
+      let other : bit_at w i ≢ 1 = eqb-false (bit_at w i) 1 off in
+      let none : bit_at w i ≡ 0 = omega (arith, other, bit_at-lt w i) in
+      none ∙ ap bit_of (sym off)
+]
+
+pub bit_in : (w i : ℕ) (there : Bool) → is_on w i ≡ there → bit_at w i ≡ bit_of there
+bit_in w i there e = bit_is w i ∙ ap bit_of e
+
+-- a bit of a word under a mask, with ones besides
+pub joined_bit : (shows one : Bool) (x m o : ℕ) → x < 2 → m ≡ bit_of shows → o ≡ bit_of one
+    → max (min x m) o ≡ cond one 1 (cond shows x 0)
+joined_bit true true x m o fits e f = omega (arith, fits, e, f)
+joined_bit false true x m o fits e f = omega (arith, fits, e, f)
+joined_bit true false x m o fits e f = omega (arith, fits, e, f)
+joined_bit false false x m o fits e f = omega (arith, fits, e, f)
+
+pub part_bit : (w mask ones i : ℕ) (shows one : Bool) → is_on mask i ≡ shows → is_on ones i ≡ one
+    → bit_at (bit_or (bit_and w mask) ones) i ≡ cond one 1 (cond shows (bit_at w i) 0)
+part_bit w mask ones i shows one e f =
+    let whole : bit_at (bit_or (bit_and w mask) ones) i ≡ max (min (bit_at w i) (bit_at mask i)) (bit_at ones i) =
+    omega (arith, bit_at_or (bit_and w mask) ones i, bit_at_and w mask i) in
+    whole
+    ∙ joined_bit shows one (bit_at w i) (bit_at mask i) (bit_at ones i) (bit_at-lt w i)
+    (bit_in mask i shows e) (bit_in ones i one f)
+
+-- the whole word, with ones besides
+pub whole_bit : (w ones i : ℕ) (one : Bool) → is_on ones i ≡ one
+    → bit_at (bit_or w ones) i ≡ cond one 1 (bit_at w i)
+whole_bit w ones i true f =
+    omega (arith, bit_at_or w ones i, bit_in ones i true f, bit_at-lt w i)
+whole_bit w ones i false f = omega (arith, bit_at_or w ones i, bit_in ones i false f)
+
+-- a part alone
+pub masked_bit : (w mask i : ℕ) (shows : Bool) → is_on mask i ≡ shows
+    → bit_at (bit_and w mask) i ≡ cond shows (bit_at w i) 0
+masked_bit w mask i true e =
+    omega (arith, bit_at_and w mask i, bit_in mask i true e, bit_at-lt w i)
+masked_bit w mask i false e = omega (arith, bit_at_and w mask i, bit_in mask i false e)
+
+-- the part that another word delegates
+pub both_bits : (a b : Bool) (x m d : ℕ) → x < 2 → m ≡ bit_of a → d ≡ bit_of b
+    → min x (min d m) ≡ cond (a && b) x 0
+both_bits true true x m d fits e f = omega (arith, fits, e, f)
+both_bits true false x m d fits e f = omega (arith, fits, e, f)
+both_bits false b x m d fits e f = omega (arith, fits, e)
+
+pub delegated_bit : (w d mask i : ℕ) (shows : Bool) → is_on mask i ≡ shows
+    → bit_at (bit_and w (bit_and d mask)) i ≡ cond (shows && is_on d i) (bit_at w i) 0
+delegated_bit w d mask i shows e =
+    let parts : bit_at (bit_and w (bit_and d mask)) i ≡ min (bit_at w i) (min (bit_at d i) (bit_at mask i)) =
+    omega (arith, bit_at_and w (bit_and d mask) i, bit_at_and d mask i) in
+    parts
+    ∙ both_bits shows (is_on d i) (bit_at w i) (bit_at mask i) (bit_at d i) (bit_at-lt w i)
+    (bit_in mask i shows e) (bit_is d i)
+
+-- the masks by their places
+pub status_places : (i : ℕ) → is_on 0x122 i ≡ is_in i (1 ∷ 5 ∷ 8 ∷ [])
+status_places = mask_has 0x122 9 (1 ∷ 5 ∷ 8 ∷ []) (lit< tt) refl refl
+
+pub supervisor_places : (i : ℕ) → is_on 0x2222 i ≡ is_in i supervisor_bits
+supervisor_places = mask_has 0x2222 14 supervisor_bits (lit< tt) refl refl
+
+pub guest_places : (i : ℕ) → is_on 0x444 i ≡ is_in i guest_bits
+guest_places = mask_has 0x444 11 guest_bits (lit< tt) refl refl
+
+pub one_length : (i : ℕ) → is_on 0x200000000 i ≡ is_in i (33 ∷ [])
+one_length = mask_has 0x200000000 34 (33 ∷ []) (lit< tt) refl refl
+
+pub both_lengths : (i : ℕ) → is_on 0xA00000000 i ≡ is_in i (33 ∷ 35 ∷ [])
+both_lengths = mask_has 0xA00000000 36 (33 ∷ 35 ∷ []) (lit< tt) refl refl

@@ -34,8 +34,8 @@ guest Vs = 1
 guest Vu = 1
 
 -- the trap, as M sees it, is taken in M
-abbrev pub entered_m : Priv → Mode → Trap → ℕ → ℕ → Priv
-entered_m p from trap pc value = record p {
+abbrev pub after_trap_to_m : Priv → Mode → Trap → ℕ → ℕ → Priv
+after_trap_to_m p from trap pc value = record p {
   mepc = pc;
   mcause = cause_word trap;
   mtval = value;
@@ -53,8 +53,8 @@ guest_left hstatus Vs = with_fields hstatus (put 7 1 1 ∷ put 8 1 1 ∷ [])
 guest_left hstatus Vu = with_fields hstatus (put 7 1 1 ∷ put 8 1 0 ∷ [])
 
 -- the trap, as S sees it, is taken in S
-abbrev pub entered_s : Priv → Mode → Trap → ℕ → ℕ → Priv
-entered_s p from trap pc value = record p {
+abbrev pub after_trap_to_s : Priv → Mode → Trap → ℕ → ℕ → Priv
+after_trap_to_s p from trap pc value = record p {
   sepc = pc;
   scause = cause_word trap;
   stval = value;
@@ -65,8 +65,8 @@ entered_s p from trap pc value = record p {
 }
 
 -- the trap, as VS sees it, is taken in VS
-abbrev pub entered_vs : Priv → Mode → Trap → ℕ → ℕ → Priv
-entered_vs p from trap pc value = record p {
+abbrev pub after_trap_to_vs : Priv → Mode → Trap → ℕ → ℕ → Priv
+after_trap_to_vs p from trap pc value = record p {
   vsepc = pc;
   vscause = cause_word trap;
   vstval = value;
@@ -74,17 +74,17 @@ entered_vs p from trap pc value = record p {
 }
 
 -- the registers after a trap into a mode; no trap goes to U or VU
-abbrev pub entered_in : Mode → Priv → Mode → Trap → ℕ → ℕ → Priv
-entered_in M p from trap pc value = entered_m p from trap pc value
-entered_in S p from trap pc value = entered_s p from trap pc value
-entered_in Vs p from trap pc value = entered_vs p from trap pc value
-entered_in U p from trap pc value = p
-entered_in Vu p from trap pc value = p
+abbrev pub after_trap_to : Mode → Priv → Mode → Trap → ℕ → ℕ → Priv
+after_trap_to M p from trap pc value = after_trap_to_m p from trap pc value
+after_trap_to S p from trap pc value = after_trap_to_s p from trap pc value
+after_trap_to Vs p from trap pc value = after_trap_to_vs p from trap pc value
+after_trap_to U p from trap pc value = p
+after_trap_to Vu p from trap pc value = p
 
-abbrev pub entered : Priv → Mode → Trap → ℕ → ℕ → Priv
-entered p from trap pc value =
+abbrev pub after_trap : Priv → Mode → Trap → ℕ → ℕ → Priv
+after_trap p from trap pc value =
     let to = target_of p from trap in
-    entered_in to p from (as_seen to trap) pc value
+    after_trap_to to p from (as_seen to trap) pc value
 
 -- the trap vector of a mode
 abbrev pub vector_of : Priv → Mode → ℕ

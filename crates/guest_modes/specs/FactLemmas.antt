@@ -6,12 +6,13 @@ use Rattle.ctr_bits.specs.Field.{field_of, with_field}
 use Rattle.ctr_bits.specs.MaskBits.{put_stays_within}
 use Rattle.ctr_csrs.specs.declared.mode.Mode.{Mode}
 use Rattle.ctr_csrs.specs.declared.mode.Mode.TheVariants.{M, S, U, Vs, Vu}
+use Rattle.guest_modes.specs.declared.causes.TheConstants.{INTERRUPTS}
 use Rattle.guest_modes.specs.declared.registers.Priv.{Priv}
 use Rattle.guest_modes.specs.declared.returning.Ret.TheVariants.{Mret, SretHs, SretVs}
 use Rattle.guest_modes.specs.declared.targets.Trap.{Trap}
 use Rattle.guest_modes.specs.declared.targets.Trap.TheVariants.{Exception, Interrupt}
 use Rattle.guest_modes.specs.Traps.{target_of, as_seen, guest_number, cause_word}
-use Rattle.guest_modes.specs.Entry.{nominal, supervisor, guest, guest_left, entered_in, vector_of, handler_at}
+use Rattle.guest_modes.specs.Entry.{nominal, supervisor, guest, guest_left, after_trap_to, vector_of, handler_at}
 use Rattle.guest_modes.specs.Words.{IsWithin, IsStatus, is_on}
 use Rattle.guest_modes.specs.WordLemmas.{or_within, part_within, status_with_mpp, status_with_field}
 use Rattle.guest_modes.specs.Facts.{keeps, RaisedKeeps, ClearedKeeps, EnteredKeeps, HandlerPlace, LeftKeeps, ReturnPlace}
@@ -25,8 +26,8 @@ raised_keeps p pending within h =
     record {
       status = h.status;
       words =
-          set 3 (keeps 0x2EEE (bit_or p.mip pending)) p
-          (or_within 0x2EEE p.mip pending (is 3 p (lit< tt) h) within) h;
+          set 3 (keeps INTERRUPTS (bit_or p.mip pending)) p
+          (or_within INTERRUPTS p.mip pending (is 3 p (lit< tt) h) within) h;
     }
 
 pub cleared_keeps : ClearedKeeps
@@ -34,8 +35,8 @@ cleared_keeps p part h =
     record {
       status = h.status;
       words =
-          set 3 (keeps 0x2EEE (bit_and p.mip part)) p
-          (part_within 0x2EEE p.mip part (is 3 p (lit< tt) h)) h;
+          set 3 (keeps INTERRUPTS (bit_and p.mip part)) p
+          (part_within INTERRUPTS p.mip part (is 3 p (lit< tt) h)) h;
     }
 
 -- traps
@@ -153,7 +154,7 @@ status_entered w m h =
 
 pub entered_in_keeps : (to : Mode) (p : Priv) (from : Mode) (t : Trap) (pc value : ℕ) → IsPriv p
     → IsSmall t → pc < 2 ^ 64 → pc % 4 ≡ 0 → value < 2 ^ 64
-    → IsPriv (entered_in to p from t pc value)
+    → IsPriv (after_trap_to to p from t pc value)
 entered_in_keeps M p from t pc value h small fits aligned s =
     let a = record p { mepc = pc } in
     let b = record a { mcause = cause_word t } in

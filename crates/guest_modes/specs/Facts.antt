@@ -4,13 +4,14 @@
 use Rattle.std.specs.Prelude.{ℕ, ◌≡◌, ◌%◌, ◌^◌, ◌<◌, List, [], ◌∷◌, bit_and, bit_or}
 use Rattle.std.specs.List.{All}
 use Rattle.ctr_csrs.specs.declared.mode.Mode.{Mode}
+use Rattle.guest_modes.specs.declared.causes.TheConstants.{INTERRUPTS}
 use Rattle.guest_modes.specs.declared.registers.Priv.{Priv}
 use Rattle.guest_modes.specs.declared.returning.Ret.{Ret}
 use Rattle.guest_modes.specs.declared.targets.Trap.{Trap}
 use Rattle.guest_modes.specs.declared.targets.Trap.TheVariants.{Exception, Interrupt}
-use Rattle.guest_modes.specs.Entry.{entered, handler_of}
-use Rattle.guest_modes.specs.Registers.{read_of, written_of}
-use Rattle.guest_modes.specs.Returns.{left, pc_after}
+use Rattle.guest_modes.specs.Entry.{after_trap, handler_of}
+use Rattle.guest_modes.specs.Registers.{read_of, after_csr_write}
+use Rattle.guest_modes.specs.Returns.{after_return, pc_after}
 use Rattle.guest_modes.specs.Words.{IsWithin, IsStatus}
 
 -- a word and the mask that it keeps
@@ -26,8 +27,8 @@ abbrev pub kept : Priv → List Kept
 kept p =
     keeps 0x4007FF p.medeleg
     ∷ keeps 0x2222 p.mideleg
-    ∷ keeps 0x2EEE p.mie
-    ∷ keeps 0x2EEE p.mip
+    ∷ keeps INTERRUPTS p.mie
+    ∷ keeps INTERRUPTS p.mip
     ∷ keeps 0xFFFFFFFFFFFFFFFD p.mtvec
     ∷ keeps 0xFFFFFFFFFFFFFFFF p.mscratch
     ∷ keeps 0xFFFFFFFFFFFFFFFC p.mepc
@@ -73,7 +74,7 @@ IsSmall (Interrupt i) = i < 64
 
 -- a write by number, and what is read by number
 abbrev pub WrittenKeeps : Type 0
-WrittenKeeps = (number v : ℕ) (p : Priv) → v < 2 ^ 64 → IsPriv p → IsPriv (written_of number v p)
+WrittenKeeps = (number v : ℕ) (p : Priv) → v < 2 ^ 64 → IsPriv p → IsPriv (after_csr_write number v p)
 
 abbrev pub ReadFits : Type 0
 ReadFits = (number : ℕ) (p : Priv) → IsPriv p → read_of number p < 2 ^ 64
@@ -81,7 +82,7 @@ ReadFits = (number : ℕ) (p : Priv) → IsPriv p → read_of number p < 2 ^ 64
 -- interrupts that become pending, and pending ones that are cleared
 abbrev pub RaisedKeeps : Type 0
 RaisedKeeps =
-    (p : Priv) (pending : ℕ) → IsWithin 0x2EEE pending → IsPriv p
+    (p : Priv) (pending : ℕ) → IsWithin INTERRUPTS pending → IsPriv p
     → IsPriv (record p { mip = bit_or p.mip pending })
 
 abbrev pub ClearedKeeps : Type 0
@@ -92,14 +93,14 @@ abbrev pub EnteredKeeps : Type 0
 EnteredKeeps =
     (p : Priv) (from : Mode) (t : Trap) (pc value : ℕ) → IsPriv p → IsSmall t → pc < 2 ^ 64
     → pc % 4 ≡ 0 → value < 2 ^ 64
-    → IsPriv (entered p from t pc value)
+    → IsPriv (after_trap p from t pc value)
 
 abbrev pub HandlerPlace : Type 0
 HandlerPlace = (p : Priv) (from : Mode) (t : Trap) → IsPriv p → IsPlace (handler_of p from t)
 
 -- a return, and the address that it goes to
 abbrev pub LeftKeeps : Type 0
-LeftKeeps = (p : Priv) (r : Ret) → IsPriv p → IsPriv (left p r)
+LeftKeeps = (p : Priv) (r : Ret) → IsPriv p → IsPriv (after_return p r)
 
 abbrev pub ReturnPlace : Type 0
 ReturnPlace = (p : Priv) (r : Ret) → IsPriv p → IsPlace (pc_after p r)

@@ -33,5 +33,5 @@ reached Vs number = below_machine number (cond (nat_eq (level_of number) 1) (fro
 reached Vu number = below_machine number (Err Virtual)
 
 -- the number that an access reaches; one to a number that isn't there, and a write of a read-only one, is illegal
-abbrev pub gated : Mode → ℕ → Bool → Result ℕ CsrFault
-gated mode number write = cond (is_there number && not (write && is_read_only number)) (reached mode number) (Err Illegal)
+abbrev pub gate_answer : Mode → ℕ → Bool → Result ℕ CsrFault
+gate_answer mode number write = cond (is_there number && not (write && is_read_only number)) (reached mode number) (Err Illegal)

@@ -46,8 +46,8 @@ abbrev pub first_for : Priv → Mode → Mode → Option ℕ
 first_for p from to = first_of (λ i. is_candidate p from i && is_same (interrupt_taker p i) to) interrupt_order
 
 -- the interrupt that is taken: one that M takes before one that S takes, and that before one that VS takes
-abbrev pub picked : Priv → Mode → Option ℕ
-picked p from = or_else (first_for p from M) (or_else (first_for p from S) (first_for p from Vs))
+abbrev pub next_interrupt : Priv → Mode → Option ℕ
+next_interrupt p from = or_else (first_for p from M) (or_else (first_for p from S) (first_for p from Vs))
 
 -- the modes that take interrupts, in this order
 abbrev pub rank : Mode → ℕ

@@ -1,5 +1,5 @@
 -- What a reader must believe: Words, Registers, Fresh, Numbers, Gate, Traps, Entry, Returns and
--- Interrupts, and the statements of Views, StatusLaws, InterruptLaws and Facts. WordLemmas,
+-- Interrupts, and the statements of Views, StatusLaws, TrapWrites, InterruptLaws and Facts. WordLemmas,
 -- RowFacts and FactLemmas have proofs that the crates above cite.
 pub mod Words
 pub mod Fresh
@@ -12,6 +12,7 @@ pub mod Returns
 pub mod Interrupts
 pub mod Views
 pub mod StatusLaws
+pub mod TrapWrites
 pub mod InterruptLaws
 pub mod Facts
 pub mod WordLemmas

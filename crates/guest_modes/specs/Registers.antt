@@ -1,7 +1,8 @@
 -- The registers of a hart with the hypervisor extension that its software reads and writes by number (Privileged
 -- Architecture, "Machine-Level ISA", "Supervisor-Level ISA" and "Hypervisor Extension"): a row for each number.
 use Rattle.std.specs.Prelude.{ℕ, ◌*◌, ◌/◌, cond, nat_eq, List, [], ◌∷◌, bit_and, bit_or}
-use Rattle.ctr_bits.specs.Mask.{merged}
+use Rattle.ctr_bits.specs.Mask.{with_masked}
+use Rattle.guest_modes.specs.declared.causes.TheConstants.{INTERRUPTS}
 use Rattle.guest_modes.specs.declared.registers.Priv.{Priv}
 use Rattle.guest_modes.specs.Words.{status_written}
 
@@ -39,13 +40,13 @@ machine_registers =
     ∷ fixed 0x301 0x8000000000141180
     ∷ row 0x302 (λ p. p.medeleg) (λ p v. record p { medeleg = bit_and v 0x4007FF })
     ∷ row 0x303 (λ p. delegated p) (λ p v. record p { mideleg = bit_and v 0x2222 })
-    ∷ row 0x304 (λ p. p.mie) (λ p v. record p { mie = bit_and v 0x2EEE })
+    ∷ row 0x304 (λ p. p.mie) (λ p v. record p { mie = bit_and v INTERRUPTS })
     ∷ row 0x305 (λ p. p.mtvec) (λ p v. record p { mtvec = bit_and v 0xFFFFFFFFFFFFFFFD })
     ∷ row 0x340 (λ p. p.mscratch) (λ p v. record p { mscratch = v })
     ∷ row 0x341 (λ p. p.mepc) (λ p v. record p { mepc = bit_and v 0xFFFFFFFFFFFFFFFC })
     ∷ row 0x342 (λ p. p.mcause) (λ p v. record p { mcause = v })
     ∷ row 0x343 (λ p. p.mtval) (λ p v. record p { mtval = v })
-    ∷ row 0x344 (λ p. p.mip) (λ p v. record p { mip = merged 0x2226 p.mip v })
+    ∷ row 0x344 (λ p. p.mip) (λ p v. record p { mip = with_masked 0x2226 p.mip v })
     ∷ row 0x34A (λ p. p.mtinst) (λ p v. record p { mtinst = v })
     ∷ row 0x34B (λ p. p.mtval2) (λ p v. record p { mtval2 = v })
     ∷ fixed 0xF11 0
@@ -57,9 +58,9 @@ machine_registers =
 
 abbrev pub supervisor_registers : List Row
 supervisor_registers =
-    row 0x100 (λ p. bit_or (bit_and p.mstatus 0x122) 0x200000000) (λ p v. record p { mstatus = merged 0x122 p.mstatus v })
-    ∷ row 0x104 (λ p. bit_and p.mie (bit_and p.mideleg 0x2222)) (λ p v. record p { mie = merged (bit_and p.mideleg 0x2222) p.mie v })
-    ∷ row 0x144 (λ p. bit_and p.mip (bit_and p.mideleg 0x2222)) (λ p v. record p { mip = merged (bit_and p.mideleg 0x2002) p.mip v })
+    row 0x100 (λ p. bit_or (bit_and p.mstatus 0x122) 0x200000000) (λ p v. record p { mstatus = with_masked 0x122 p.mstatus v })
+    ∷ row 0x104 (λ p. bit_and p.mie (bit_and p.mideleg 0x2222)) (λ p v. record p { mie = with_masked (bit_and p.mideleg 0x2222) p.mie v })
+    ∷ row 0x144 (λ p. bit_and p.mip (bit_and p.mideleg 0x2222)) (λ p v. record p { mip = with_masked (bit_and p.mideleg 0x2002) p.mip v })
     ∷ row 0x105 (λ p. p.stvec) (λ p v. record p { stvec = bit_and v 0xFFFFFFFFFFFFFFFD })
     ∷ row 0x140 (λ p. p.sscratch) (λ p v. record p { sscratch = v })
     ∷ row 0x141 (λ p. p.sepc) (λ p v. record p { sepc = bit_and v 0xFFFFFFFFFFFFFFFC })
@@ -73,9 +74,9 @@ hypervisor_registers =
     row 0x600 (λ p. bit_or p.hstatus 0x200000000) (λ p v. record p { hstatus = bit_and v 0x180 })
     ∷ row 0x602 (λ p. p.hedeleg) (λ p v. record p { hedeleg = bit_and v 0x1FF })
     ∷ row 0x603 (λ p. p.hideleg) (λ p v. record p { hideleg = bit_and v 0x2444 })
-    ∷ row 0x604 (λ p. bit_and p.mie 0x444) (λ p v. record p { mie = merged 0x444 p.mie v })
-    ∷ row 0x644 (λ p. bit_and p.mip 0x444) (λ p v. record p { mip = merged 0x4 p.mip v })
-    ∷ row 0x645 (λ p. bit_and p.mip 0x444) (λ p v. record p { mip = merged 0x444 p.mip v })
+    ∷ row 0x604 (λ p. bit_and p.mie 0x444) (λ p v. record p { mie = with_masked 0x444 p.mie v })
+    ∷ row 0x644 (λ p. bit_and p.mip 0x444) (λ p v. record p { mip = with_masked 0x4 p.mip v })
+    ∷ row 0x645 (λ p. bit_and p.mip 0x444) (λ p v. record p { mip = with_masked 0x444 p.mip v })
     ∷ row 0x643 (λ p. p.htval) (λ p v. record p { htval = v })
     ∷ row 0x64A (λ p. p.htinst) (λ p v. record p { htinst = v })
     ∷ fixed 0x680 0
@@ -84,8 +85,8 @@ hypervisor_registers =
 abbrev pub virtual_registers : List Row
 virtual_registers =
     row 0x200 (λ p. bit_or p.vsstatus 0x200000000) (λ p v. record p { vsstatus = bit_and v 0x122 })
-    ∷ row 0x204 (λ p. lowered (bit_and p.mie (shown p))) (λ p v. record p { mie = merged (shown p) p.mie (lifted v) })
-    ∷ row 0x244 (λ p. lowered (bit_and p.mip (shown p))) (λ p v. record p { mip = merged (bit_and (shown p) 0x2004) p.mip (lifted v) })
+    ∷ row 0x204 (λ p. lowered (bit_and p.mie (shown p))) (λ p v. record p { mie = with_masked (shown p) p.mie (lifted v) })
+    ∷ row 0x244 (λ p. lowered (bit_and p.mip (shown p))) (λ p v. record p { mip = with_masked (bit_and (shown p) 0x2004) p.mip (lifted v) })
     ∷ row 0x205 (λ p. p.vstvec) (λ p v. record p { vstvec = bit_and v 0xFFFFFFFFFFFFFFFD })
     ∷ row 0x240 (λ p. p.vsscratch) (λ p v. record p { vsscratch = v })
     ∷ row 0x241 (λ p. p.vsepc) (λ p v. record p { vsepc = bit_and v 0xFFFFFFFFFFFFFFFC })
@@ -108,5 +109,5 @@ row_of number =
 abbrev pub read_of : ℕ → Priv → ℕ
 read_of number p = (row_of number).reads p
 
-abbrev pub written_of : ℕ → ℕ → Priv → Priv
-written_of number value p = (row_of number).writes p value
+abbrev pub after_csr_write : ℕ → ℕ → Priv → Priv
+after_csr_write number value p = (row_of number).writes p value

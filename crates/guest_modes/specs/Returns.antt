@@ -26,14 +26,14 @@ pc_after p SretHs = p.sepc
 pc_after p SretVs = p.vsepc
 
 -- the registers after a return
-abbrev pub left : Priv → Ret → Priv
-left p Mret = record p {
+abbrev pub after_return : Priv → Ret → Priv
+after_return p Mret = record p {
   mstatus = with_fields p.mstatus (put 3 1 (field_of 7 1 p.mstatus) ∷ put 7 1 1 ∷ put 11 2 0 ∷ put 39 1 0 ∷ []);
 }
-left p SretHs = record p {
+after_return p SretHs = record p {
   mstatus = with_fields p.mstatus (put 1 1 (field_of 5 1 p.mstatus) ∷ put 5 1 1 ∷ put 8 1 0 ∷ []);
   hstatus = with_fields p.hstatus (put 7 1 0 ∷ []);
 }
-left p SretVs = record p {
+after_return p SretVs = record p {
   vsstatus = with_fields p.vsstatus (put 1 1 (field_of 5 1 p.vsstatus) ∷ put 5 1 1 ∷ put 8 1 0 ∷ []);
 }

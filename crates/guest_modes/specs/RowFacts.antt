@@ -3,8 +3,9 @@
 use Rattle.std.proofs.Common.{ℕ, ◌≡◌, ◌≢◌, ◌/◌, ◌%◌, ◌^◌, ◌<◌, Bool, true, false, cond, nat_eq, List, [], ◌∷◌, bit_and, bit_or, refl, sym, ◌∙◌, ap, arith, lit<}
 use Rattle.std.proofs.lemmas.Nat.{and_le_l, and_le_r, and_mask, or_lt}
 use Rattle.ctr_bits.specs.Field.{field_of, with_field}
-use Rattle.ctr_bits.specs.Mask.{merged}
+use Rattle.ctr_bits.specs.Mask.{with_masked}
 use Rattle.ctr_bits.specs.MaskBits.{mask_twice, merged_stays_within}
+use Rattle.guest_modes.specs.declared.causes.TheConstants.{INTERRUPTS}
 use Rattle.guest_modes.specs.declared.registers.Priv.{Priv}
 use Rattle.guest_modes.specs.Registers.{Row, row_in, row_of, machine_registers, supervisor_registers, hypervisor_registers, virtual_registers, fixed, shown, lowered, lifted}
 use Rattle.guest_modes.specs.Words.{IsWithin, IsStatus, status_written}
@@ -62,10 +63,10 @@ abbrev pub at : ℕ → Priv → Kept
 at n p = slice_index_or (kept p) n (keeps 0 0)
 
 pub merges : (n part : ℕ) (p : Priv) (v : ℕ) → n < 28 → bit_and part (at n p).mask ≡ part → IsPriv p
-    → All IsKept (slice_set (kept p) n (keeps (at n p).mask (merged part (at n p).word v)))
+    → All IsKept (slice_set (kept p) n (keeps (at n p).mask (with_masked part (at n p).word v)))
 merges n part p v lt wider h =
     let k = at n p in
-    set n (keeps k.mask (merged part k.word v)) p
+    set n (keeps k.mask (with_masked part k.word v)) p
     (merged_stays_within part k.mask k.word v wider (is n p lt h)) h
 
 pub small : (n : ℕ) (p : Priv) → n < 28 → (at n p).mask < 2 ^ 64 → IsPriv p → (at n p).word < 2 ^ 64
@@ -130,7 +131,7 @@ machine_keeps =
       reads = λ p h. small_or p.mideleg 0x444 (small 1 p (lit< tt) (lit< tt) h) (lit< tt);
     }
     ⊕ record {
-      writes = λ p v s h. record { status = h.status; words = masked 2 0x2EEE p v h };
+      writes = λ p v s h. record { status = h.status; words = masked 2 INTERRUPTS p v h };
       reads = λ p h. small 2 p (lit< tt) (lit< tt) h;
     }
     ⊕ record {
@@ -188,7 +189,7 @@ supervisor_keeps =
         status = h.status;
         words =
             merges 2 (bit_and p.mideleg 0x2222) p v (lit< tt)
-            (under_part 0x2EEE 0x2222 p.mideleg refl) h;
+            (under_part INTERRUPTS 0x2222 p.mideleg refl) h;
       };
       reads = λ p h. small_left p.mie (bit_and p.mideleg 0x2222) (small 2 p (lit< tt) (lit< tt) h);
     }
@@ -197,7 +198,7 @@ supervisor_keeps =
         status = h.status;
         words =
             merges 3 (bit_and p.mideleg 0x2002) p v (lit< tt)
-            (under_part 0x2EEE 0x2002 p.mideleg refl) h;
+            (under_part INTERRUPTS 0x2002 p.mideleg refl) h;
       };
       reads = λ p h. small_left p.mip (bit_and p.mideleg 0x2222) (small 3 p (lit< tt) (lit< tt) h);
     }
@@ -280,7 +281,7 @@ virtual_keeps =
         status = h.status;
         words =
             merges 3 (bit_and (shown p) 0x2004) p (lifted v) (lit< tt)
-            (under_part 0x2EEE 0x2004 (shown p) refl) h;
+            (under_part INTERRUPTS 0x2004 (shown p) refl) h;
       };
       reads = λ p h. small_lowered (bit_and p.mip (shown p));
     }

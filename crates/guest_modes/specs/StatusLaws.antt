@@ -11,8 +11,8 @@ use Rattle.guest_modes.specs.declared.registers.Priv.{Priv}
 use Rattle.guest_modes.specs.declared.returning.Ret.{Ret}
 use Rattle.guest_modes.specs.declared.returning.Ret.TheVariants.{Mret, SretHs, SretVs}
 use Rattle.guest_modes.specs.declared.targets.Trap.{Trap}
-use Rattle.guest_modes.specs.Entry.{entered}
-use Rattle.guest_modes.specs.Returns.{left, mode_after, pc_after}
+use Rattle.guest_modes.specs.Entry.{after_trap}
+use Rattle.guest_modes.specs.Returns.{after_return, mode_after, pc_after}
 use Rattle.guest_modes.specs.Traps.{target_of, is_trap_between}
 
 abbrev pub bit_of : Bool → ℕ
@@ -74,7 +74,7 @@ StatusesEntered Vu from old new = new ≡ old
 abbrev pub EntryBits : Type 0
 EntryBits =
     (p : Priv) (from : Mode) (t : Trap) (pc value : ℕ)
-    → StatusesEntered (target_of p from t) from p (entered p from t pc value)
+    → StatusesEntered (target_of p from t) from p (after_trap p from t pc value)
 
 -- mstatus after MRET
 pub record MachineReturn (old new : ℕ) : Type 0 where
@@ -110,7 +110,7 @@ StatusesLeft SretVs old new =
     × SupervisorReturn old.vsstatus new.vsstatus
 
 abbrev pub ReturnBits : Type 0
-ReturnBits = (p : Priv) (r : Ret) → StatusesLeft r p (left p r)
+ReturnBits = (p : Priv) (r : Ret) → StatusesLeft r p (after_return p r)
 
 -- the return that a handler in a mode makes; U and VU have none
 abbrev pub return_from : Mode → Ret
@@ -125,5 +125,5 @@ abbrev pub ReturnGoesBack : Type 0
 ReturnGoesBack =
     (p : Priv) (from : Mode) (t : Trap) (pc value : ℕ)
     → IsTrue (is_trap_between from (target_of p from t))
-    → (mode_after (entered p from t pc value) (return_from (target_of p from t)) ≡ from)
-    × (pc_after (entered p from t pc value) (return_from (target_of p from t)) ≡ pc)
+    → (mode_after (after_trap p from t pc value) (return_from (target_of p from t)) ≡ from)
+    × (pc_after (after_trap p from t pc value) (return_from (target_of p from t)) ≡ pc)

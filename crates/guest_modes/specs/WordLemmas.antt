@@ -4,8 +4,9 @@ use Rattle.std.proofs.lemmas.Nat.{and_assoc, and_comm, mod_below}
 use Rattle.std.proofs.lemmas.Nat.Bits.{bit_at_and, bit_at_or, same_from_bits}
 use Rattle.ctr_bits.specs.Field.{field_of, with_field}
 use Rattle.ctr_bits.specs.FieldLaws.{get_after_put}
-use Rattle.ctr_bits.specs.Mask.{merged}
+use Rattle.ctr_bits.specs.Mask.{with_masked}
 use Rattle.ctr_bits.specs.MaskBits.{field_in_mask, put_leaves_mask, put_stays_within, merged_stays_within, field_of_merged_off}
+use Rattle.guest_modes.specs.declared.causes.TheConstants.{INTERRUPTS}
 use Rattle.guest_modes.specs.declared.registers.Priv.{Priv}
 use Rattle.guest_modes.specs.Registers.{shown}
 use Rattle.guest_modes.specs.Words.{IsWithin, IsStatus}
@@ -48,16 +49,16 @@ status_with_field lo len word value status fits kept apart = record {
 }
 
 -- a write of sstatus leaves MPP
-pub status_in_part : (word value : ℕ) → IsStatus word → IsStatus (merged 0x122 word value)
+pub status_in_part : (word value : ℕ) → IsStatus word → IsStatus (with_masked 0x122 word value)
 status_in_part word value status = record {
   kept = merged_stays_within 0x122 0x80000019AA word value refl status.kept;
   known = λ e. status.known (sym (field_of_merged_off 11 2 0x122 word value (lit< tt) (lit≤ tt) refl) ∙ e);
 }
 
 -- what VS is shown lies within mie
-pub shown_within : (p : Priv) → IsWithin 0x2EEE (shown p)
-shown_within p = or_within 0x2EEE (bit_and p.hideleg 0x444) (bit_and (bit_and p.mideleg p.hideleg) 0x2000)
-    (under_part 0x2EEE 0x444 p.hideleg refl) (under_part 0x2EEE 0x2000 (bit_and p.mideleg p.hideleg) refl)
+pub shown_within : (p : Priv) → IsWithin INTERRUPTS (shown p)
+shown_within p = or_within INTERRUPTS (bit_and p.hideleg 0x444) (bit_and (bit_and p.mideleg p.hideleg) 0x2000)
+    (under_part INTERRUPTS 0x444 p.hideleg refl) (under_part INTERRUPTS 0x2000 (bit_and p.mideleg p.hideleg) refl)
 
 -- what a write of mstatus keeps, with MPP from the old word where the reserved value was written
 pub status_rewritten : (old value : ℕ) → IsStatus old → IsStatus (with_field 11 2 (bit_and value 0x80000019AA) (field_of 11 2 old))

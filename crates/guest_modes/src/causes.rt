@@ -43,5 +43,5 @@ pub const VIRTUAL_INSTRUCTION: u8 = 22;
 /// The interrupt of a counter that overflows.
 pub const LOCAL_COUNTER_OVERFLOW: u8 = 13;
 
-// A bit for each interrupt: what mip and mie keep.
-pub(crate) const INTERRUPTS: u64 = 0x2EEE;
+/// A bit for each interrupt, at its number: what `mip` and `mie` keep.
+pub const INTERRUPTS: u64 = 0x2EEE;

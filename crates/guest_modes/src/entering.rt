@@ -1,6 +1,6 @@
 ghost use Rattle.std.specs.Prelude.{◌≡◌, ◌≢◌, ◌<◌, ◌%◌, IsTrue};
 ghost use Rattle.ctr_csrs.specs.declared.mode.Mode.{Mode};
-ghost use Rattle.guest_modes.specs.Entry.{nominal, supervisor, guest, guest_left, entered, entered_m, entered_s, entered_vs, handler_at, handler_of};
+ghost use Rattle.guest_modes.specs.Entry.{nominal, supervisor, guest, guest_left, after_trap, after_trap_to_m, after_trap_to_s, after_trap_to_vs, handler_at, handler_of};
 ghost use Rattle.guest_modes.specs.Traps.{target_of, is_cause, is_trap_between, as_seen, guest_number, cause_word};
 
 use crate::masked::Masked;
@@ -15,7 +15,7 @@ pub fn enter_trap(p: &mut Priv, mode: Mode, trap: Trap, pc: u64, value: u64) -> 
     requires cause { IsTrue (is_cause trap) }
     requires aligned { pc % 4 ≡ 0 }
     requires between { IsTrue (is_trap_between mode (target_of p.old mode trap)) }
-    ensures registers { p.new ≡ entered p.old mode trap pc value }
+    ensures registers { p.new ≡ after_trap p.old mode trap pc value }
     ensures target { result.0 ≡ target_of p.old mode trap }
     ensures handler { result.1 ≡ handler_of p.old mode trap }
     ensures handler_aligned { result.1 % 4 ≡ 0 }
@@ -34,7 +34,7 @@ pub fn enter_trap(p: &mut Priv, mode: Mode, trap: Trap, pc: u64, value: u64) -> 
 // Answers the trap vector.
 fn enter_m(p: &mut Priv, mode: Mode, seen: Trap, pc: u64, value: u64) -> u64
     requires { pc % 4 ≡ 0 }
-    ensures registers { p.new ≡ entered_m p.old mode seen pc value }
+    ensures registers { p.new ≡ after_trap_to_m p.old mode seen pc value }
     ensures vector { result ≡ p.old.mtvec }
 {
     let enabled = Field::<3, 1>::get(p.mstatus.get());
@@ -54,7 +54,7 @@ fn enter_m(p: &mut Priv, mode: Mode, seen: Trap, pc: u64, value: u64) -> u64
 // Answers the trap vector.
 fn enter_s(p: &mut Priv, mode: Mode, seen: Trap, pc: u64, value: u64) -> u64
     requires { pc % 4 ≡ 0 }
-    ensures registers { p.new ≡ entered_s p.old mode seen pc value }
+    ensures registers { p.new ≡ after_trap_to_s p.old mode seen pc value }
     ensures vector { result ≡ p.old.stvec }
 {
     let enabled = Field::<1, 1>::get(p.mstatus.get());
@@ -75,7 +75,7 @@ fn enter_s(p: &mut Priv, mode: Mode, seen: Trap, pc: u64, value: u64) -> u64
 // Answers the trap vector.
 fn enter_vs(p: &mut Priv, mode: Mode, seen: Trap, pc: u64, value: u64) -> u64
     requires { pc % 4 ≡ 0 }
-    ensures registers { p.new ≡ entered_vs p.old mode seen pc value }
+    ensures registers { p.new ≡ after_trap_to_vs p.old mode seen pc value }
     ensures vector { result ≡ p.old.vstvec }
 {
     let enabled = Field::<1, 1>::get(p.vsstatus.get());

@@ -1,4 +1,5 @@
 ghost use Rattle.std.specs.Prelude.{◌^◌, ◌<◌};
+ghost use Rattle.guest_modes.specs.declared.causes.TheConstants.{INTERRUPTS};
 ghost use Rattle.guest_modes.specs.Facts.{IsPriv, WrittenKeeps, ReadFits, RaisedKeeps, ClearedKeeps, EnteredKeeps, HandlerPlace, LeftKeeps, ReturnPlace};
 ghost use Rattle.guest_modes.specs.Words.{IsWithin, IsStatus};
 
@@ -22,8 +23,8 @@ fn masked_facts(p: &Priv)
     ensures mstatus_is { IsStatus p.now.mstatus }
     ensures medeleg_is { IsWithin 0x4007FF p.now.medeleg }
     ensures mideleg_is { IsWithin 0x2222 p.now.mideleg }
-    ensures mie_is { IsWithin 0x2EEE p.now.mie }
-    ensures mip_is { IsWithin 0x2EEE p.now.mip }
+    ensures mie_is { IsWithin INTERRUPTS p.now.mie }
+    ensures mip_is { IsWithin INTERRUPTS p.now.mip }
     ensures mtvec_is { IsWithin 0xFFFFFFFFFFFFFFFD p.now.mtvec }
     ensures mepc_is { IsWithin 0xFFFFFFFFFFFFFFFC p.now.mepc }
     ensures stvec_is { IsWithin 0xFFFFFFFFFFFFFFFD p.now.stvec }

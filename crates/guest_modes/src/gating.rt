@@ -1,5 +1,5 @@
 ghost use Rattle.std.specs.Prelude.{◌≡◌, ◌&&◌, not, IsTrue, IfOk};
-ghost use Rattle.guest_modes.specs.Gate.{gated, is_read_only};
+ghost use Rattle.guest_modes.specs.Gate.{gate_answer, is_read_only};
 ghost use Rattle.guest_modes.specs.Numbers.{is_in, is_there, transfer_numbers};
 
 use crate::numbered::is_register;
@@ -19,7 +19,7 @@ pub enum CsrFault {
 /// (RISC-V Privileged Architecture, "CSR Address Mapping Conventions" and "Hypervisor and Virtual Supervisor CSRs").
 /// An access from VS to a supervisor register reaches the VS register in its place.
 pub fn gate(mode: Mode, csr: u16, write: bool) -> Result<u16, CsrFault>
-    ensures reached { result ≡ gated mode csr write }
+    ensures reached { result ≡ gate_answer mode csr write }
     ensures there { IfOk result (λ number. IsTrue (is_there number)) }
 {
     if !is_possible(csr, write) {

@@ -1,7 +1,7 @@
 ghost use Rattle.std.specs.Bool.{OnTrue, OnFalse};
 ghost use Rattle.std.specs.Prelude.{◌≡◌, ◌≢◌, ℕ, None, ◌<◌, ◌↔◌, ◌&&◌, IsTrue, IsNone, IfSome, bit_and};
 ghost use Rattle.ctr_csrs.specs.declared.mode.Mode.{Mode};
-ghost use Rattle.guest_modes.specs.Interrupts.{allows, is_candidate, first_for, picked, IsFirst, NoCandidate};
+ghost use Rattle.guest_modes.specs.Interrupts.{allows, is_candidate, first_for, next_interrupt, IsFirst, NoCandidate};
 ghost use Rattle.guest_modes.specs.Numbers.{is_in};
 ghost use Rattle.guest_modes.specs.Traps.{interrupt_order, interrupt_taker, is_same, is_cause, is_trap_between};
 
@@ -21,7 +21,7 @@ pub fn is_interrupt(number: u8) -> bool
 /// The number of the interrupt that is taken while the hart runs in `mode`, or `None` where none can be taken (RISC-V
 /// Privileged Architecture, "Machine Interrupt Registers" and "Hypervisor Interrupt Registers").
 pub fn pick_interrupt(p: &Priv, mode: Mode) -> Option<u8>
-    ensures picked { result ≡ picked p.now mode }
+    ensures picked { result ≡ next_interrupt p.now mode }
     ensures first { (i : ℕ) → (result ≡ Some i) ↔ IsFirst p.now mode i }
     ensures none { IsNone result ↔ NoCandidate p.now mode }
     ensures cause { IfSome result (λ i. IsTrue (is_cause (Trap.Interrupt i))) }
@@ -32,7 +32,7 @@ pub fn pick_interrupt(p: &Priv, mode: Mode) -> Option<u8>
 
 // Candidates for M come first, then those for S, then those for VS.
 fn first_of_all(p: &Priv, mode: Mode) -> Option<u8>
-    ensures { result ≡ picked p.now mode }
+    ensures { result ≡ next_interrupt p.now mode }
 {
     if is_quiet(p) {
         return None;
@@ -52,7 +52,7 @@ fn first_of_all(p: &Priv, mode: Mode) -> Option<u8>
 pub fn is_quiet(p: &Priv) -> bool
     ensures yes { OnTrue result (bit_and p.now.mip p.now.mie ≡ 0) }
     ensures no { OnFalse result (bit_and p.now.mip p.now.mie ≢ 0) }
-    ensures none { OnTrue result ((mode : Mode) → picked p.now mode ≡ None) }
+    ensures none { OnTrue result ((mode : Mode) → next_interrupt p.now mode ≡ None) }
 {
     p.mip.get() & p.mie.get() == 0
 }

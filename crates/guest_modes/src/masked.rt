@@ -1,6 +1,6 @@
 ghost use Rattle.std.specs.Prelude.{◌≡◌, ℕ, ◌+◌, ◌-◌, ◌^◌, ◌<◌, ◌≤◌, bit_and, bit_or};
 ghost use Rattle.ctr_bits.specs.Field.{field_of, with_field};
-ghost use Rattle.ctr_bits.specs.Mask.{merged};
+ghost use Rattle.ctr_bits.specs.Mask.{with_masked};
 ghost use Rattle.guest_modes.specs.Words.{IsWithin};
 
 use ctr_bits::Field;
@@ -43,7 +43,7 @@ impl<const MASK: u64> Masked<MASK> {
     // The bits of `part` are those of `value`.
     pub(crate) fn merge(self, part: u64, value: u64) -> Self
         requires { IsWithin MASK part }
-        ensures { result ≡ merged part self.entry value }
+        ensures { result ≡ with_masked part self.entry value }
     {
         Masked {
             word: (self.word & !part) | (value & part),

@@ -1,6 +1,6 @@
 ghost use Rattle.std.specs.Prelude.{◌≡◌, ◌≢◌, ℕ, ◌+◌, ◌-◌, ◌^◌, ◌<◌, ◌≤◌, bit_and};
 ghost use Rattle.ctr_bits.specs.Field.{field_of, with_field};
-ghost use Rattle.ctr_bits.specs.Mask.{merged};
+ghost use Rattle.ctr_bits.specs.Mask.{with_masked};
 ghost use Rattle.guest_modes.specs.Words.{IsWithin, IsStatus, status_written};
 
 use ctr_bits::Field;
@@ -63,7 +63,7 @@ impl Mstatus {
 
     // After a write of `sstatus`.
     pub(crate) fn write_supervisor(self, value: u64) -> Self
-        ensures { result ≡ merged 0x122 self value }
+        ensures { result ≡ with_masked 0x122 self value }
     {
         Mstatus {
             word: (self.word & !SUPERVISOR_PART) | (value & SUPERVISOR_PART),

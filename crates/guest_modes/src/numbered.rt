@@ -1,7 +1,8 @@
 ghost use Rattle.std.specs.Prelude.{◌≡◌, ℕ, ◌*◌, ◌/◌, ◌<◌, bit_and, IsTrue};
 ghost use Rattle.guest_modes.specs.Numbers.{is_register};
-ghost use Rattle.guest_modes.specs.Registers.{lowered, lifted, shown, read_of, written_of};
+ghost use Rattle.guest_modes.specs.Registers.{lowered, lifted, shown, read_of, after_csr_write};
 
+use crate::causes::INTERRUPTS;
 use crate::masked::Masked;
 use crate::registers::Priv;
 
@@ -26,7 +27,7 @@ macro_rules! registers {
             0x301 => $verb!(fixed 0x8000000000141180, $($more)*),
             0x302 => $verb!(kept medeleg 0x4007FF 0, $($more)*),
             0x303 => $verb!(kept mideleg 0x2222 0x444, $($more)*),
-            0x304 => $verb!(kept mie 0x2EEE 0, $($more)*),
+            0x304 => $verb!(kept mie INTERRUPTS 0, $($more)*),
             0x305 => $verb!(kept mtvec 0xFFFFFFFFFFFFFFFD 0, $($more)*),
             0x340 => $verb!(whole mscratch, $($more)*),
             0x341 => $verb!(kept mepc 0xFFFFFFFFFFFFFFFC 0, $($more)*),
@@ -82,10 +83,10 @@ macro_rules! reads {
     (fixed $value:literal, $p:ident) => {
         $value
     };
-    (kept $name:ident $mask:literal 0, $p:ident) => {
+    (kept $name:ident $mask:tt 0, $p:ident) => {
         $p.$name.get()
     };
-    (kept $name:ident $mask:literal $added:literal, $p:ident) => {
+    (kept $name:ident $mask:tt $added:literal, $p:ident) => {
         $p.$name.get() | $added
     };
     (whole $name:ident, $p:ident) => {
@@ -118,7 +119,7 @@ macro_rules! written {
     (fixed $fixed:literal, $p:ident $value:ident) => {
         ()
     };
-    (kept $name:ident $mask:literal $added:literal, $p:ident $value:ident) => {
+    (kept $name:ident $mask:tt $added:literal, $p:ident $value:ident) => {
         $p.$name = Masked::<$mask>::of($value)
     };
     (whole $name:ident, $p:ident $value:ident) => {
@@ -167,7 +168,7 @@ pub fn read_csr(p: &Priv, csr: u16) -> u64
 /// changes that part of it. A write of a register that can't change leaves all as it was.
 pub fn write_csr(p: &mut Priv, csr: u16, value: u64)
     requires { IsTrue (is_register csr) }
-    ensures { p.new ≡ written_of csr value p.old }
+    ensures { p.new ≡ after_csr_write csr value p.old }
 {
     registers!(written, csr, p value)
 }

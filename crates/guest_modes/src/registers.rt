@@ -1,6 +1,7 @@
 ghost use Rattle.std.specs.Prelude.{◌≡◌, ℕ, ◌-◌, ◌^◌, ◌<◌, bit_and, bit_or, IsTrue};
 ghost use Rattle.guest_modes.specs.Words.{IsWithin};
 
+use crate::causes::INTERRUPTS;
 use crate::masked::Masked;
 use crate::mstatus::Mstatus;
 
@@ -12,8 +13,8 @@ pub struct Priv {
     pub(crate) mstatus: Mstatus,
     pub(crate) medeleg: Masked<0x4007FF>,
     pub(crate) mideleg: Masked<0x2222>,
-    pub(crate) mie: Masked<0x2EEE>,
-    pub(crate) mip: Masked<0x2EEE>,
+    pub(crate) mie: Masked<INTERRUPTS>,
+    pub(crate) mip: Masked<INTERRUPTS>,
     pub(crate) mtvec: Masked<0xFFFFFFFFFFFFFFFD>,
     pub(crate) mscratch: u64,
     pub(crate) mepc: Masked<0xFFFFFFFFFFFFFFFC>,
@@ -84,7 +85,7 @@ impl Priv {
 
     /// Makes interrupts pending: bit i of `pending` is interrupt i. Those that were pending stay so.
     pub fn raise(&mut self, pending: u64)
-        requires { IsWithin 0x2EEE pending }
+        requires { IsWithin INTERRUPTS pending }
         ensures { self.new ≡ record self.old { mip = bit_or self.old.mip pending } }
     {
         self.mip = self.mip.set(pending);

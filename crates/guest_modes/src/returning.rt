@@ -1,5 +1,5 @@
 ghost use Rattle.std.specs.Prelude.{◌≡◌, ◌%◌};
-ghost use Rattle.guest_modes.specs.Returns.{mode_of, mode_after, pc_after, left};
+ghost use Rattle.guest_modes.specs.Returns.{mode_of, mode_after, pc_after, after_return};
 
 use crate::registers::Priv;
 use ctr_bits::Field;
@@ -20,7 +20,7 @@ pub enum Ret {
 
 /// Returns from a trap. Answers the mode and the address that the return goes to.
 pub fn leave_trap(p: &mut Priv, ret: Ret) -> (Mode, u64)
-    ensures registers { p.new ≡ left p.old ret }
+    ensures registers { p.new ≡ after_return p.old ret }
     ensures mode { result.0 ≡ mode_after p.old ret }
     ensures pc { result.1 ≡ pc_after p.old ret }
     ensures aligned { result.1 % 4 ≡ 0 }

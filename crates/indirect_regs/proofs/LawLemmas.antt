@@ -6,7 +6,7 @@ use Rattle.ctr_buffer.specs.declared.slot.Part.TheVariants as parts
 use Rattle.ctr_buffer.specs.Entry.{part_of}
 use Rattle.guest_modes.specs.declared.gating.CsrFault.{CsrFault}
 use Rattle.guest_modes.specs.declared.registers.Priv.{Priv}
-use Rattle.guest_modes.specs.Gate.{gated}
+use Rattle.guest_modes.specs.Gate.{gate_answer}
 use Rattle.indirect_regs.specs.declared.accessing.CsrUse.{CsrUse}
 use Rattle.indirect_regs.specs.declared.accessing.CsrUse.TheVariants.{Read, Write}
 use Rattle.indirect_regs.specs.declared.port.PortReg.{PortReg}
@@ -14,7 +14,7 @@ use Rattle.indirect_regs.specs.declared.port.PortReg.TheVariants.{Mctrctl, Vsctr
 use Rattle.indirect_regs.specs.Unit.{UnitState, after_any}
 use Rattle.indirect_regs.specs.Ports.{names_entry, entry_named, read}
 use Rattle.indirect_regs.specs.Table.{Row, row_of, part_read}
-use Rattle.indirect_regs.specs.Access.{Accessed, new_value, put_in, used, passed, is_write}
+use Rattle.indirect_regs.specs.Access.{AccessResult, new_value, put_in, used, passed, is_write}
 use Rattle.indirect_regs.specs.Laws.{MonitorReachesAsM, EventsMakeTheBuffer}
 
 -- a select in the range names an entry
@@ -40,13 +40,13 @@ monitor_reaches_as_m Status u p value h = record { reads = refl; writes = refl; 
 monitor_reaches_as_m Select u p value h = record { reads = refl; writes = refl; others = refl }
 monitor_reaches_as_m From u p value h =
     let e = entry_access From 0x151 u p value (part_is_read u parts.Source (names u.select h)) in
-    record { reads = e.0; writes = ap (λ (a : Accessed). a.unit) e.1; others = ap (λ (a : Accessed). a.registers) e.1 }
+    record { reads = e.0; writes = ap (λ (a : AccessResult). a.unit) e.1; others = ap (λ (a : AccessResult). a.registers) e.1 }
 monitor_reaches_as_m To u p value h =
     let e = entry_access To 0x152 u p value (part_is_read u parts.Target (names u.select h)) in
-    record { reads = e.0; writes = ap (λ (a : Accessed). a.unit) e.1; others = ap (λ (a : Accessed). a.registers) e.1 }
+    record { reads = e.0; writes = ap (λ (a : AccessResult). a.unit) e.1; others = ap (λ (a : AccessResult). a.registers) e.1 }
 monitor_reaches_as_m Kind u p value h =
     let e = entry_access Kind 0x153 u p value (part_is_read u parts.Kind (names u.select h)) in
-    record { reads = e.0; writes = ap (λ (a : Accessed). a.unit) e.1; others = ap (λ (a : Accessed). a.registers) e.1 }
+    record { reads = e.0; writes = ap (λ (a : AccessResult). a.unit) e.1; others = ap (λ (a : AccessResult). a.registers) e.1 }
 
 -- the buffer after an access, by its answers one after another
 pub put_makes : (row : Row) (u : UnitState) (p : Priv) (old : ℕ) (value : Option ℕ)
@@ -63,4 +63,4 @@ passed_makes u p op (Err fault) = refl
 passed_makes u p op (Ok number) = used_makes (row_of number) u p op ((row_of number).reads u p)
 
 pub events_make_the_buffer : EventsMakeTheBuffer
-events_make_the_buffer u p mode csr op = passed_makes u p op (gated mode csr (is_write op))
+events_make_the_buffer u p mode csr op = passed_makes u p op (gate_answer mode csr (is_write op))

@@ -1,2 +1,3 @@
 mod AccessLemmas
 mod LawLemmas
+mod FrozenLemmas

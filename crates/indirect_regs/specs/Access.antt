@@ -5,7 +5,7 @@ use Rattle.ctr_csrs.specs.declared.mode.Mode.{Mode}
 use Rattle.guest_modes.specs.declared.gating.CsrFault.{CsrFault}
 use Rattle.guest_modes.specs.declared.gating.CsrFault.TheVariants.{Illegal}
 use Rattle.guest_modes.specs.declared.registers.Priv.{Priv}
-use Rattle.guest_modes.specs.Gate.{gated}
+use Rattle.guest_modes.specs.Gate.{gate_answer}
 use Rattle.ctr_buffer.specs.declared.event.Event.{Event}
 use Rattle.indirect_regs.specs.declared.accessing.CsrUse.{CsrUse}
 use Rattle.indirect_regs.specs.declared.accessing.CsrUse.TheVariants.{Read, Write, Set, Clear}
@@ -27,18 +27,18 @@ new_value (Set bits) old = Some (bit_or old bits)
 new_value (Clear bits) old = Some (bit_and old (2 ^ 64 - 1 - bits))
 
 -- what an access leaves: its answer, the unit, the other registers, and the event of the record buffer that it was
-pub record Accessed : Type 0 where
+pub record AccessResult : Type 0 where
   pub answer : Result ℕ CsrFault
   pub unit : UnitState
   pub registers : Priv
   pub event : Option Event
 
 -- nothing is changed
-abbrev pub unchanged : UnitState → Priv → Result ℕ CsrFault → Accessed
+abbrev pub unchanged : UnitState → Priv → Result ℕ CsrFault → AccessResult
 unchanged u p answer = record { answer = answer; unit = u; registers = p; event = None }
 
 -- a value is written to a register, if there is one
-abbrev pub put_in : Row → UnitState → Priv → ℕ → Option ℕ → Accessed
+abbrev pub put_in : Row → UnitState → Priv → ℕ → Option ℕ → AccessResult
 put_in row u p old None = unchanged u p (Ok old)
 put_in row u p old (Some value) = record {
   answer = Ok old;
@@ -48,16 +48,16 @@ put_in row u p old (Some value) = record {
 }
 
 -- a register that is reached is used: refused where its select names no entry
-abbrev pub used : Row → UnitState → Priv → CsrUse → Option ℕ → Accessed
+abbrev pub used : Row → UnitState → Priv → CsrUse → Option ℕ → AccessResult
 used row u p op None = unchanged u p (Err Illegal)
 used row u p op (Some old) = put_in row u p old (new_value op old)
 
-abbrev pub passed : UnitState → Priv → CsrUse → Result ℕ CsrFault → Accessed
+abbrev pub passed : UnitState → Priv → CsrUse → Result ℕ CsrFault → AccessResult
 passed u p op (Err fault) = unchanged u p (Err fault)
 passed u p op (Ok number) = used (row_of number) u p op ((row_of number).reads u p)
 
-abbrev pub accessed : UnitState → Priv → Mode → ℕ → CsrUse → Accessed
-accessed u p mode csr op = passed u p op (gated mode csr (is_write op))
+abbrev pub access_of : UnitState → Priv → Mode → ℕ → CsrUse → AccessResult
+access_of u p mode csr op = passed u p op (gate_answer mode csr (is_write op))
 
 -- the gate lets the access through to a register whose select names no entry
 abbrev pub ReachesNoEntry : UnitState → Priv → Result ℕ CsrFault → Type 0

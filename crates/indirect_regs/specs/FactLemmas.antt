@@ -22,7 +22,7 @@ use Rattle.ctr_buffer.specs.Facts.{IsBuffer, IsEvent}
 use Rattle.ctr_buffer.specs.FactLemmas.{zero_is, item_or, buffers_stay}
 use Rattle.guest_modes.specs.declared.gating.CsrFault.{CsrFault}
 use Rattle.guest_modes.specs.declared.registers.Priv.{Priv}
-use Rattle.guest_modes.specs.Gate.{gated}
+use Rattle.guest_modes.specs.Gate.{gate_answer}
 use Rattle.guest_modes.specs.Numbers.{is_register}
 use Rattle.guest_modes.specs.Facts.{IsPriv, keeps}
 use Rattle.guest_modes.specs.RowFacts.{written_keeps, read_fits, small_within, is, set}
@@ -31,10 +31,10 @@ use Rattle.indirect_regs.specs.declared.accessing.CsrUse.TheVariants.{Read, Writ
 use Rattle.indirect_regs.specs.declared.port.PortReg.{PortReg}
 use Rattle.indirect_regs.specs.declared.port.PortReg.TheVariants.{Mctrctl, Vsctrctl, Depth as Depths, Status, Select, From, To, Kind}
 use Rattle.indirect_regs.specs.Unit.{UnitState, HasControls, IsUnit, after_any, CanTakeAny}
-use Rattle.indirect_regs.specs.Ports.{read, part_kept, entry_named, number_named, names_entry, depth_written, part_written, event_of, changed, written}
+use Rattle.indirect_regs.specs.Ports.{read, part_kept, entry_named, number_named, names_entry, depth_written, part_written, event_of, changed, after_write}
 use Rattle.indirect_regs.specs.Table.{Row, direct, by_siselect, by_vsiselect, indirect, unused, sctrctl, guest_select, kept, no_register, transfer_rows, row_in, row_of}
 use Rattle.indirect_regs.specs.Facts.{IsWholeUnit, UseFits, IsAccessed}
-use Rattle.indirect_regs.specs.Access.{is_write, new_value, put_in, used, passed, accessed}
+use Rattle.indirect_regs.specs.Access.{is_write, new_value, put_in, used, passed, access_of}
 
 pub unit_of : (u : UnitState) → IsWholeUnit u → IsUnit u
 unit_of u h = record { controls = h.controls; stack = h.buffer.stack }
@@ -160,7 +160,7 @@ changed_is Kind u v h = h
 pub with_stack : (u : UnitState) (s : Stack) → HasControls u → IsBuffer s → IsWholeUnit (record u { stack = s })
 with_stack u s h b = record { controls = record { m = h.m; vs = h.vs; select = h.select }; buffer = b }
 
-pub port_keeps : (reg : PortReg) (v : ℕ) (u : UnitState) → v < 2 ^ 64 → IsWholeUnit u → IsWholeUnit (written reg v u)
+pub port_keeps : (reg : PortReg) (v : ℕ) (u : UnitState) → v < 2 ^ 64 → IsWholeUnit u → IsWholeUnit (after_write reg v u)
 port_keeps reg v u p h =
     with_stack (changed reg u v) (after_any u.stack (event_of reg u v)) (changed_is reg u v h.controls)
     (any_keeps u.stack (event_of reg u v) h.buffer (event_is reg u v p))
@@ -338,5 +338,5 @@ passed_keeps u p op (Err f) h q fits = record { answer = tt; unit = h; registers
 passed_keeps u p op (Ok n) h q fits =
     used_keeps (row_of n) u p op ((row_of n).reads u p) (row_keeps n) h q fits ((row_keeps n).reads u p h q)
 
-pub accessed_keeps : (u : UnitState) (p : Priv) (mode : Mode) (csr : ℕ) (op : CsrUse) → IsWholeUnit u → IsPriv p → UseFits op → IsAccessed u (accessed u p mode csr op)
-accessed_keeps u p mode csr op h q fits = passed_keeps u p op (gated mode csr (is_write op)) h q fits
+pub accessed_keeps : (u : UnitState) (p : Priv) (mode : Mode) (csr : ℕ) (op : CsrUse) → IsWholeUnit u → IsPriv p → UseFits op → IsAccessed u (access_of u p mode csr op)
+accessed_keeps u p mode csr op h q fits = passed_keeps u p op (gate_answer mode csr (is_write op)) h q fits

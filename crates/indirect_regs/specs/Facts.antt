@@ -10,8 +10,8 @@ use Rattle.guest_modes.specs.Facts.{IsPriv}
 use Rattle.indirect_regs.specs.declared.accessing.CsrUse.{CsrUse}
 use Rattle.indirect_regs.specs.declared.accessing.CsrUse.TheVariants.{Read, Write, Set, Clear}
 use Rattle.indirect_regs.specs.declared.port.PortReg.{PortReg}
-use Rattle.indirect_regs.specs.Access.{Accessed, accessed}
-use Rattle.indirect_regs.specs.Ports.{written}
+use Rattle.indirect_regs.specs.Access.{AccessResult, access_of}
+use Rattle.indirect_regs.specs.Ports.{after_write}
 use Rattle.indirect_regs.specs.Unit.{UnitState, HasControls, CanTakeAny}
 
 -- the controls and the select that the registers can hold, and a record buffer each of whose entries is one
@@ -31,7 +31,7 @@ AnswerFits (Ok value) = value < 2 ^ 64
 AnswerFits (Err fault) = Unit {0}
 
 -- what an access leaves of a unit: a unit, registers that hold what they can, and an event that the buffer can take
-pub record IsAccessed (u : UnitState) (a : Accessed) : Type 0 where
+pub record IsAccessed (u : UnitState) (a : AccessResult) : Type 0 where
   pub answer : AnswerFits a.answer
   pub unit : IsWholeUnit a.unit
   pub registers : IsPriv a.registers
@@ -40,9 +40,9 @@ pub record IsAccessed (u : UnitState) (a : Accessed) : Type 0 where
 
 abbrev pub AccessesKeepFacts : Type 0
 AccessesKeepFacts = (u : UnitState) (p : Priv) (mode : Mode) (csr : ℕ) (op : CsrUse) →
-    IsWholeUnit u → IsPriv p → UseFits op → IsAccessed u (accessed u p mode csr op)
+    IsWholeUnit u → IsPriv p → UseFits op → IsAccessed u (access_of u p mode csr op)
 
 -- a monitor's write of a word keeps the unit one
 abbrev pub MonitorKeepsFacts : Type 0
 MonitorKeepsFacts = (reg : PortReg) (value : ℕ) (u : UnitState) →
-    value < 2 ^ 64 → IsWholeUnit u → IsWholeUnit (written reg value u)
+    value < 2 ^ 64 → IsWholeUnit u → IsWholeUnit (after_write reg value u)

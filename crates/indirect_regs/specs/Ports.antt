@@ -27,7 +27,7 @@ number_named select = select % 256
 abbrev pub entry_named : Stack → ℕ → Entry
 entry_named s select = entry_at s (number_named select)
 
--- what a part keeps of a value that is written to it
+-- what a part keeps of a value that is after_write to it
 abbrev pub part_kept : Part → ℕ → ℕ
 part_kept parts.Source value = value
 part_kept parts.Target value = value
@@ -44,12 +44,12 @@ read From u = part_of parts.Source (entry_named u.stack u.select)
 read To u = part_of parts.Target (entry_named u.stack u.select)
 read Kind u = part_of parts.Kind (entry_named u.stack u.select)
 
--- a depth is written: the present one, and a code that names none, change nothing
+-- a depth is after_write: the present one, and a code that names none, change nothing
 abbrev pub depth_written : Stack → Option Depth → Option Event
 depth_written s None = None
 depth_written s (Some depth) = cond (nat_eq (entries_of depth) (size_of s)) None (Some (SetDepth depth))
 
--- a part of the entry that a select names is written; entries from the depth up take nothing
+-- a part of the entry that a select names is after_write; entries from the depth up take nothing
 abbrev pub part_written : Stack → ℕ → Part → ℕ → Option Event
 part_written s select part value =
     cond (nat_lt (number_named select) (size_of s)) (Some (Poke (number_named select) part (part_kept part value))) None
@@ -79,8 +79,8 @@ changed To u value = u
 changed Kind u value = u
 
 -- the unit after a write of a register
-abbrev pub written : PortReg → ℕ → UnitState → UnitState
-written reg value u = record (changed reg u value) { stack = after_any u.stack (event_of reg u value) }
+abbrev pub after_write : PortReg → ℕ → UnitState → UnitState
+after_write reg value u = record (changed reg u value) { stack = after_any u.stack (event_of reg u value) }
 
 -- the registers of the selected entry want a select that names one
 abbrev pub Selects : PortReg → UnitState → Type 0

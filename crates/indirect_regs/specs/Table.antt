@@ -1,11 +1,11 @@
 -- The registers that a hart's software reads and writes by number, those of control transfer records among them (RISC-V
 -- Control Transfer Records 1.0; Privileged Architecture, "Indirect CSR Access").
 use Rattle.std.specs.Prelude.{ℕ, ◌%◌, cond, nat_eq, Option, Some, None, List, [], ◌∷◌, bit_and}
-use Rattle.ctr_bits.specs.Mask.{merged}
+use Rattle.ctr_bits.specs.Mask.{with_masked}
 use Rattle.ctr_csrs.specs.ControlFigure.{s_mask}
 use Rattle.guest_modes.specs.declared.registers.Priv.{Priv}
 use Rattle.guest_modes.specs.Numbers.{is_register}
-use Rattle.guest_modes.specs.Registers.{read_of, written_of}
+use Rattle.guest_modes.specs.Registers.{read_of, after_csr_write}
 use Rattle.ctr_buffer.specs.declared.event.Event.{Event}
 use Rattle.ctr_buffer.specs.declared.slot.Part.{Part}
 use Rattle.ctr_buffer.specs.declared.slot.Part.TheVariants.{Source, Target, Kind}
@@ -75,7 +75,7 @@ sctrctl number = record {
   number = number;
   reads = λ u p. Some (bit_and u.m s_mask);
   event = λ u p v. None;
-  unit = λ u v. record u { m = merged s_mask u.m v };
+  unit = λ u v. record u { m = with_masked s_mask u.m v };
   registers = λ p v. p;
 }
 
@@ -96,7 +96,7 @@ kept number = record {
   reads = λ u p. Some (read_of number p);
   event = λ u p v. None;
   unit = λ u v. u;
-  registers = λ p v. written_of number v p;
+  registers = λ p v. after_csr_write number v p;
 }
 
 -- no register: nothing is read, and nothing changes

@@ -32,8 +32,8 @@ abbrev pub fresh_unit : Depth → UnitState
 fresh_unit depth = record { m = 0; vs = 0; frozen = false; select = 0; stack = empty depth }
 
 -- the unit after an event of its record buffer
-abbrev pub performed : UnitState → Event → UnitState
-performed u e = record u { stack = after u.stack e }
+abbrev pub after_event : UnitState → Event → UnitState
+after_event u e = record u { stack = after u.stack e }
 
 -- and after an event, if there is one
 abbrev pub after_any : Stack → Option Event → Stack
@@ -46,4 +46,4 @@ CanTakeAny s (Some e) = CanTake s e
 
 -- SCTRCLR
 abbrev pub cleared_unit : UnitState → UnitState
-cleared_unit u = performed u Clear
+cleared_unit u = after_event u Clear

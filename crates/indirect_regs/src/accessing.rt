@@ -1,6 +1,6 @@
 ghost use Rattle.std.specs.Prelude.{◌≡◌, ℕ, ◌↔◌, ◌⊎◌, OnErr};
-ghost use Rattle.guest_modes.specs.Gate.{gated};
-ghost use Rattle.indirect_regs.specs.Access.{is_write, new_value, passed, accessed, ReachesNoEntry};
+ghost use Rattle.guest_modes.specs.Gate.{gate_answer};
+ghost use Rattle.indirect_regs.specs.Access.{is_write, new_value, passed, access_of, ReachesNoEntry};
 
 use crate::numbered::{read_register, write_register};
 use crate::unit::CtrUnit;
@@ -33,15 +33,16 @@ pub fn access<B: CtrStore>(
     csr: u16,
     op: CsrUse,
 ) -> Result<u64, CsrFault>
-    ensures answer { result ≡ (accessed unit.old p.old mode csr op).answer }
-    ensures unit { unit.new ≡ (accessed unit.old p.old mode csr op).unit }
-    ensures registers { p.new ≡ (accessed unit.old p.old mode csr op).registers }
+    ensures answer { result ≡ (access_of unit.old p.old mode csr op).answer }
+    ensures unit { unit.new ≡ (access_of unit.old p.old mode csr op).unit }
+    ensures registers { p.new ≡ (access_of unit.old p.old mode csr op).registers }
     ensures refused { OnErr result ((unit.new ≡ unit.old) × (p.new ≡ p.old)) }
-    ensures is_virtual { (result ≡ Err CsrFault.Virtual) ↔ (gated mode csr (is_write op) ≡ Err CsrFault.Virtual) }
+    ensures is_virtual { (result ≡ Err CsrFault.Virtual) ↔ (gate_answer mode csr (is_write op) ≡ Err CsrFault.Virtual) }
 
     // The gate refuses the access, or it reaches a register of an entry whose select names none.
     ensures is_illegal { (result ≡ Err CsrFault.Illegal)
-        ↔ ((gated mode csr (is_write op) ≡ Err CsrFault.Illegal) ⊎ ReachesNoEntry unit.old p.old (gated mode csr (is_write op))) }
+        ↔ ((gate_answer mode csr (is_write op) ≡ Err CsrFault.Illegal)
+          ⊎ ReachesNoEntry unit.old p.old (gate_answer mode csr (is_write op))) }
 {
     match gate(mode, csr, writes(op)) {
         Ok(number) => use_register(unit, p, number, op),

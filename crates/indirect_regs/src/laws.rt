@@ -1,9 +1,12 @@
 ghost use Rattle.indirect_regs.specs.Facts.{AccessesKeepFacts, MonitorKeepsFacts};
-ghost use Rattle.indirect_regs.specs.Laws.{MonitorReachesAsM, EventsMakeTheBuffer};
+ghost use Rattle.indirect_regs.specs.Laws.{MonitorReachesAsM, FrozenChangesByStatus, EventsMakeTheBuffer};
 
 /// The laws of accesses and of a monitor's port: a proof and no work.
 pub fn register_laws()
     ensures monitor_reaches_as_m { MonitorReachesAsM }
+    ensures frozen_changes_by_status { FrozenChangesByStatus }
+
+    // So an access is defined; the crates above are told by it.
     ensures events_make_the_buffer { EventsMakeTheBuffer }
 {}
 

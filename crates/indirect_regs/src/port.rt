@@ -1,6 +1,6 @@
 ghost use Rattle.std.specs.Prelude.{◌≡◌, ℕ, ◌+◌, ◌^◌, ◌<◌};
 ghost use Rattle.indirect_regs.specs.Unit.{UnitState, IsUnit, cleared_unit};
-ghost use Rattle.indirect_regs.specs.Ports.{read, written, Selects, Legal};
+ghost use Rattle.indirect_regs.specs.Ports.{read, after_write, Selects, Legal};
 
 /// A register of the control transfer unit as a monitor in Debug Mode names it. It has the rights of M.
 #[derive(Clone, Copy, Debug, PartialEq, Eq)]
@@ -57,7 +57,7 @@ pub trait CtrPort {
     fn set(&mut self, reg: PortReg, value: u64)
         requires room { count self.old < 2 ^ 63 }
         requires selects { Selects reg (unit self.old) }
-        ensures unit { unit self.new ≡ written reg value (unit self.old) }
+        ensures unit { unit self.new ≡ after_write reg value (unit self.old) }
         ensures count { count self.new ≡ count self.old + 1 }
         ensures rest { same_rest self.old self.new };
 

@@ -283,6 +283,76 @@ fn a_guest_reaches_registers_of_its_own(rt: HostRuntime) {
     );
 }
 
+// RISC-V Control Transfer Records 1.0, "Entry Registers"; Privileged Architecture, "Indirect CSR
+// Access": the registers of S go by siselect, those of VS by vsiselect, each whatever the other holds.
+#[test]
+fn each_select_reaches_the_registers_of_its_own_mode(rt: HostRuntime) {
+    let illegal = Err(CsrFault::Illegal);
+    for (select, guest_select, answer, guest_answer) in [
+        (0, 0x200, illegal, Ok(0)),
+        (0x200, 0, Ok(0), illegal),
+    ] {
+        let mut unit = unit();
+        let mut p = Priv::fresh();
+        for (csr, value) in [(0x150, select), (0x250, guest_select)] {
+            assert_eq!(rt;
+                access(&mut unit, &mut p, Mode::S, csr, CsrUse::Write(value)),
+                Ok(0),
+                "register {csr:x}"
+            );
+        }
+        for (csr, guest_csr) in [
+            (0x151, 0x251),
+            (0x152, 0x252),
+            (0x153, 0x253),
+            (0x155, 0x255),
+            (0x156, 0x256),
+            (0x157, 0x257),
+        ] {
+            for (mode, register, want) in [
+                (Mode::S, csr, answer),
+                (Mode::S, guest_csr, guest_answer),
+                (Mode::M, csr, answer),
+                (Mode::M, guest_csr, guest_answer),
+                (Mode::Vs, csr, guest_answer), // in VS it is the register of VS
+            ] {
+                assert_eq!(rt;
+                    access(&mut unit, &mut p, mode, register, CsrUse::Read),
+                    want,
+                    "{register:x} in {mode:?} with siselect {select:x}"
+                );
+                assert_eq!(rt;
+                    access(&mut unit, &mut p, mode, register, CsrUse::Write(0)),
+                    want,
+                    "a write of it"
+                );
+            }
+        }
+    }
+}
+
+// RISC-V Control Transfer Records 1.0, registers sctrdepth and sctrstatus: another depth sets WRPTR
+// to 0, and FROZEN stays.
+#[test]
+fn another_depth_leaves_frozen(rt: HostRuntime) {
+    for (frozen, want) in [(0x8000_0000, 0x8000_0000), (0, 0)] {
+        let mut unit = unit();
+        let mut p = Priv::fresh();
+        for (csr, value) in [(0x14F, frozen + 5), (0x15F, 3)] {
+            assert_eq!(rt;
+                access(&mut unit, &mut p, Mode::M, csr, CsrUse::Write(value)),
+                Ok(0),
+                "register {csr:x}"
+            );
+        }
+        assert_eq!(rt;
+            access(&mut unit, &mut p, Mode::S, 0x14F, CsrUse::Read),
+            Ok(want),
+            "sctrstatus"
+        );
+    }
+}
+
 // RISC-V Unprivileged ISA, "Zicsr".
 #[test]
 fn set_and_clear_write_over_the_old_value(rt: HostRuntime) {

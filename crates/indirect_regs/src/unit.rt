@@ -3,8 +3,8 @@ ghost use Rattle.ctr_csrs.specs.Depths.{depth_at};
 ghost use Rattle.ctr_buffer.specs.Entry.{FitsPart, part_of};
 ghost use Rattle.ctr_buffer.specs.History.{CanTake};
 ghost use Rattle.ctr_buffer.specs.declared.event.Event.{Event};
-ghost use Rattle.indirect_regs.specs.Unit.{UnitState, IsUnit, fresh_unit, performed, after_any, CanTakeAny, cleared_unit};
-ghost use Rattle.indirect_regs.specs.Ports.{entry_named, part_kept, read, depth_written, part_written, event_of, changed, written, Selects, Legal};
+ghost use Rattle.indirect_regs.specs.Unit.{UnitState, IsUnit, fresh_unit, after_event, after_any, CanTakeAny, cleared_unit};
+ghost use Rattle.indirect_regs.specs.Ports.{entry_named, part_kept, read, depth_written, part_written, event_of, changed, after_write, Selects, Legal};
 
 use crate::port::PortReg;
 use ctr_buffer::{CtrStore, Event, Part, Slot, perform};
@@ -85,7 +85,7 @@ impl<B: CtrStore> CtrUnit<B> {
     #[inline(always)]
     pub fn set(&mut self, reg: PortReg, value: u64)
         requires { Selects reg self.old }
-        ensures { self.new ≡ written reg value self.old }
+        ensures { self.new ≡ after_write reg value self.old }
     {
         let event = self.event(reg, value);
         self.change(reg, value);
@@ -103,7 +103,7 @@ impl<B: CtrStore> CtrUnit<B> {
     #[inline(always)]
     pub fn perform(&mut self, event: Event)
         requires { CanTake self.old.stack event }
-        ensures { self.new ≡ performed self.old event }
+        ensures { self.new ≡ after_event self.old event }
     {
         perform(&mut self.store, event);
     }

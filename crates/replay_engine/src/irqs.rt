@@ -2,6 +2,7 @@
 
 ghost use Rattle.std.specs.Prelude.{OnOk, ◌≡◌, ◌+◌, ◌<◌, ◌^◌, [], ◌∷◌, ◌++◌, drop};
 ghost use Rattle.std.specs.Bool.{OnTrue, OnFalse};
+ghost use Rattle.guest_modes.specs.declared.causes.TheConstants.{INTERRUPTS};
 ghost use Rattle.guest_modes.specs.Words.{IsWithin};
 ghost use Rattle.rv_hart.specs.Task.{causes};
 ghost use Rattle.replay_engine.specs.Irqs.{IsIrq, CanFollow, IsDue, IsEarly, Rise, place_of};
@@ -35,7 +36,7 @@ impl Irq {
     fn bit(self) -> u64
         requires { IsIrq self }
         ensures bit { result ≡ 2 ^ self.cause }
-        ensures within { IsWithin 0x2EEE result }
+        ensures within { IsWithin INTERRUPTS result }
     {
         interrupt_laws();
         1 << self.cause
@@ -134,7 +135,7 @@ impl Irqs {
     pub(crate) fn raised(&self, place: &mut usize, step: u64) -> u64
         requires { place.old ≡ place_of self.now step }
         ensures bits { result ≡ causes self.now step }
-        ensures within { IsWithin 0x2EEE result }
+        ensures within { IsWithin INTERRUPTS result }
         ensures place { place.new ≡ place_of self.now (step + 1) }
     {
         let mut bits = 0;
@@ -165,7 +166,7 @@ impl Irqs {
         requires place { place.old ≡ place_of self.now step }
         requires next { next.old ≡ step_at self.now place.old }
         ensures bits { result ≡ causes self.now step }
-        ensures within { IsWithin 0x2EEE result }
+        ensures within { IsWithin INTERRUPTS result }
         ensures place { place.new ≡ place_of self.now (step + 1) }
         ensures next { next.new ≡ step_at self.now place.new }
     {
@@ -182,7 +183,7 @@ impl Irqs {
     fn raised_now(&self, place: &mut usize, next: &mut u64, step: u64) -> u64
         requires { place.old ≡ place_of self.now step }
         ensures bits { result ≡ causes self.now step }
-        ensures within { IsWithin 0x2EEE result }
+        ensures within { IsWithin INTERRUPTS result }
         ensures place { place.new ≡ place_of self.now (step + 1) }
         ensures next { next.new ≡ step_at self.now place.new }
     {

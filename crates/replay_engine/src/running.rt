@@ -3,6 +3,7 @@
 ghost use Rattle.std.specs.Prelude.{◌≡◌, ◌+◌, ◌-◌, ◌≤◌, ◌^◌, List, OnOk, OnErr};
 ghost use Rattle.ctr_port.specs.Appended.{GainsPart};
 ghost use Rattle.ctr_port.specs.Counts.{Rose};
+ghost use Rattle.guest_modes.specs.declared.causes.TheConstants.{INTERRUPTS};
 ghost use Rattle.guest_modes.specs.Words.{IsWithin};
 ghost use Rattle.rv_hart.specs.Task.{Irq, causes};
 ghost use Rattle.sched_text.specs.declared.limits.TheConstants.{MOST_STEPS};
@@ -19,7 +20,7 @@ use rv_hart::{Hart, Store};
 // One step of a task on a hart.
 #[inline(always)]
 fn step(hart: &mut Hart<Store>, task: &mut Task, pending: u64)
-    requires pending { IsWithin 0x2EEE pending }
+    requires pending { IsWithin INTERRUPTS pending }
     requires hart_room { hart.old.steps ≤ 2 ^ 62 }
     requires task_room { task.old.steps ≤ 2 ^ 62 }
     ensures seat { (irqs : List Irq) → pending ≡ causes irqs task.old.steps →

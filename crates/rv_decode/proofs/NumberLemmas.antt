@@ -7,7 +7,7 @@ use Rattle.ctr_bits.specs.SextLaws.{extended_fits}
 use Rattle.rv_decode.specs.declared.instruction.Instr.{Instr}
 use Rattle.rv_decode.specs.Formats.{imm_i_of, imm_s_of, imm_b_of, imm_u_of, imm_j_of}
 use Rattle.rv_decode.specs.Table.{Rule, table, rd_of, rs1_of, rs2_of, csr_of}
-use Rattle.rv_decode.specs.Rows.{RowIn, Row, decoded}
+use Rattle.rv_decode.specs.Rows.{RowIn, Row, instruction_of}
 use Rattle.rv_decode.specs.Numbers.{NumbersFit}
 use Rattle.rv_decode.specs.WordFits.{WordsFit}
 use Rattle.rv_decode.specs.Laws.{RowsFit, RowWordsFit, DecodedWordsFit}
@@ -78,14 +78,14 @@ rows_fit w i q = (row_fits w i q).0
 pub row_words_fit : RowWordsFit
 row_words_fit w i q = (row_fits w i q).1
 
-pub found_fits : (w : ℕ) (found : Option Instr) → found ≡ decoded w → IfSome found (λ i. NumbersFit i)
+pub found_fits : (w : ℕ) (found : Option Instr) → found ≡ instruction_of w → IfSome found (λ i. NumbersFit i)
 found_fits w None e = tt
 found_fits w (Some i) e = rows_fit w i (decoded_row w i (sym e))
 
-pub found_words_fit : (w : ℕ) (found : Option Instr) → found ≡ decoded w
+pub found_words_fit : (w : ℕ) (found : Option Instr) → found ≡ instruction_of w
     → IfSome found (λ i. WordsFit i)
 found_words_fit w None e = tt
 found_words_fit w (Some i) e = row_words_fit w i (decoded_row w i (sym e))
 
 pub decoded_words_fit : DecodedWordsFit
-decoded_words_fit w = found_words_fit w (decoded w) refl
+decoded_words_fit w = found_words_fit w (instruction_of w) refl

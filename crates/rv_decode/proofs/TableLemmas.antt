@@ -5,7 +5,7 @@ use Rattle.std.proofs.lemmas.Option.{none-some, same_Some}
 use Rattle.ctr_bits.specs.Field.{field_of}
 use Rattle.rv_decode.specs.declared.instruction.Instr.{Instr}
 use Rattle.rv_decode.specs.Table.{Test, Rule, table}
-use Rattle.rv_decode.specs.Rows.{Selects, RowIn, Row, RowAt, passes, first_row, decoded}
+use Rattle.rv_decode.specs.Rows.{Selects, RowIn, Row, RowAt, passes, first_row, instruction_of}
 use Rattle.rv_decode.specs.Laws.{OneRow, OneInstr}
 
 pub passes_selects : (ts : List Test) (w : ℕ) → passes ts w ≡ true → Selects ts w
@@ -109,22 +109,22 @@ first_is_row (r ∷ rs) w i e = elim (cases_Bool (passes r.tests w)) [
   | inr p ↦ inr (first_is_row rs w i (sym (cond-false (passes r.tests w) (Some (r.gives w)) (first_row rs w) p) ∙ e))
 ]
 
-pub row_decoded : (w : ℕ) (i : Instr) → Row w i → decoded w ≡ Some i
-unfolding Row decoded
+pub row_decoded : (w : ℕ) (i : Instr) → Row w i → instruction_of w ≡ Some i
+unfolding Row instruction_of
 row_decoded w i q = row_is_first table w i table_apart q
 
-pub decoded_row : (w : ℕ) (i : Instr) → decoded w ≡ Some i → Row w i
-unfolding Row decoded
+pub decoded_row : (w : ℕ) (i : Instr) → instruction_of w ≡ Some i → Row w i
+unfolding Row instruction_of
 decoded_row w i e = first_is_row table w i e
 
-pub found_some : (w : ℕ) (found : Option Instr) → found ≡ decoded w → (i : Instr) → (found ≡ Some i) ↔ Row w i
+pub found_some : (w : ℕ) (found : Option Instr) → found ≡ instruction_of w → (i : Instr) → (found ≡ Some i) ↔ Row w i
 found_some w found e i = (λ p. decoded_row w i (sym e ∙ p), λ q. e ∙ row_decoded w i q)
 
-pub no_row : (w : ℕ) (found : Option Instr) → found ≡ decoded w → ((i : Instr) → Row w i → ⊥) → found ≡ None
+pub no_row : (w : ℕ) (found : Option Instr) → found ≡ instruction_of w → ((i : Instr) → Row w i → ⊥) → found ≡ None
 no_row w None e none = refl
 no_row w (Some i) e none = absurd (none i (decoded_row w i (sym e)))
 
-pub found_none : (w : ℕ) (found : Option Instr) → found ≡ decoded w → (found ≡ None) ↔ ((i : Instr) → Row w i → ⊥)
+pub found_none : (w : ℕ) (found : Option Instr) → found ≡ instruction_of w → (found ≡ None) ↔ ((i : Instr) → Row w i → ⊥)
 found_none w found e = (λ p. λ i q. none-some i (sym p ∙ e ∙ row_decoded w i q), λ none. no_row w found e none)
 
 pub one_row : OneRow

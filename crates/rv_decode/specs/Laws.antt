@@ -2,7 +2,7 @@
 use Rattle.std.specs.Prelude.{ℕ, ◌≡◌, IfSome}
 use Rattle.rv_decode.specs.declared.instruction.Instr.{Instr}
 use Rattle.rv_decode.specs.Table.{table}
-use Rattle.rv_decode.specs.Rows.{Row, RowAt, decoded}
+use Rattle.rv_decode.specs.Rows.{Row, RowAt, instruction_of}
 use Rattle.rv_decode.specs.Numbers.{NumbersFit}
 use Rattle.rv_decode.specs.WordFits.{WordsFit}
 
@@ -22,6 +22,6 @@ RowsFit = (w : ℕ) (i : Instr) → Row w i → NumbersFit i
 abbrev pub RowWordsFit : Type 0
 RowWordsFit = (w : ℕ) (i : Instr) → Row w i → WordsFit i
 
--- the same of what a word is decoded to
+-- the same of what a word is instruction_of to
 abbrev pub DecodedWordsFit : Type 0
-DecodedWordsFit = (w : ℕ) → IfSome (decoded w) WordsFit
+DecodedWordsFit = (w : ℕ) → IfSome (instruction_of w) WordsFit

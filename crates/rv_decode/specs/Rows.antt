@@ -16,7 +16,7 @@ abbrev pub RowIn : List Rule → ℕ → Instr → Type 0
 RowIn [] w i = ⊥
 RowIn (r ∷ rs) w i = (Selects r.tests w × (i ≡ r.gives w)) ⊎ RowIn rs w i
 
--- closed, as decoded is, so that no goal of a crate above spells the table out
+-- closed, as instruction_of is, so that no goal of a crate above spells the table out
 unfoldable pub Row : ℕ → Instr → Type 0
 Row w i = RowIn table w i
 
@@ -35,5 +35,5 @@ abbrev pub first_row : List Rule → ℕ → Option Instr
 first_row [] w = None
 first_row (r ∷ rs) w = cond (passes r.tests w) (Some (r.gives w)) (first_row rs w)
 
-unfoldable pub decoded : ℕ → Option Instr
-decoded w = first_row table w
+unfoldable pub instruction_of : ℕ → Option Instr
+instruction_of w = first_row table w

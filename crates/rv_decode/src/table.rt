@@ -1,5 +1,5 @@
 ghost use Rattle.std.specs.Prelude.{◌≡◌};
-ghost use Rattle.rv_decode.specs.Rows.{decoded};
+ghost use Rattle.rv_decode.specs.Rows.{instruction_of};
 
 use crate::fields::{
     csr, funct3, funct6, funct7, imm_b, imm_i, imm_j, imm_s, imm_u, opcode, rd, rs1, rs2, shamt5,
@@ -57,9 +57,9 @@ macro_rules! rows {
 }
 
 // What the table answers to a word.
-#[tactic(auto, unfolding(crate::specs::Rows::decoded))]
+#[tactic(auto, unfolding(crate::specs::Rows::instruction_of))]
 pub(crate) fn row_of(word: u32) -> Option<Instr>
-    ensures { result ≡ decoded word }
+    ensures { result ≡ instruction_of word }
 {
     let w = u64::from(word);
     rows!(w, opcode {

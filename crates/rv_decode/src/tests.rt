@@ -297,6 +297,37 @@ fn a_word_beside_each_row_is_no_instruction(rt: HostRuntime) {
     }
 }
 
+// RISC-V Unprivileged ISA, "Environment Call and Breakpoints"; Privileged Architecture,
+// "Trap-Return Instructions" and "Wait for Interrupt"; Control Transfer Records 1.0, SCTRCLR: the
+// figures have 0 in rd and rs1.
+#[test]
+fn the_single_words_have_neither_rd_nor_rs1(rt: HostRuntime) {
+    for word in [
+        0x000000F3, // ecall with rd x1
+        0x00008073, // ecall with rs1 x1
+        0x30200F73, // mret with rd x30
+        0x104000F3, // sctrclr with rd x1
+        0x10408073, // sctrclr with rs1 x1
+    ] {
+        assert_eq!(rt; decode(word), None, "{word:08x}");
+    }
+    // Each bit of rd, 11:7, and of rs1, 19:15.
+    for bit in [
+        0x80, 0x100, 0x200, 0x400, 0x800, 0x8000, 0x1_0000, 0x2_0000, 0x4_0000, 0x8_0000,
+    ] {
+        for single in [
+            0x00000073, // ecall
+            0x00100073, // ebreak
+            0x30200073, // mret
+            0x10200073, // sret
+            0x10500073, // wfi
+            0x10400073, // sctrclr
+        ] {
+            assert_eq!(rt; decode(single | bit), None, "{single:08x} with {bit:x}");
+        }
+    }
+}
+
 // A word of an opcode, by its 1,024 pairs of funct7 and funct3, with other fields than the single
 // words have.
 fn word_of(opcode: u32, pair: u32) -> u32 {

@@ -1,5 +1,5 @@
 ghost use Rattle.std.specs.Prelude.{◌≡◌, ◌↔◌, IfSome};
-ghost use Rattle.rv_decode.specs.Rows.{Row, decoded};
+ghost use Rattle.rv_decode.specs.Rows.{Row, instruction_of};
 ghost use Rattle.rv_decode.specs.Numbers.{NumbersFit};
 ghost use Rattle.rv_decode.specs.WordFits.{WordsFit};
 
@@ -12,7 +12,7 @@ pub fn decode(word: u32) -> Option<Instr>
     ensures none { (result ≡ None) ↔ ((i : Instr) → Row word i → ⊥) }
     ensures numbers { IfSome result (λ i. NumbersFit i) }
     ensures words { IfSome result (λ i. WordsFit i) }
-    ensures value { result ≡ decoded word }
+    ensures value { result ≡ instruction_of word }
 {
     row_of(word)
 }

@@ -3,7 +3,7 @@ use Rattle.std.proofs.Common.{◌≡◌, refl, ℕ, fold, Option, Some, None, Ok
 use Rattle.ctr_buffer.specs.declared.event.Event.{Event}
 use Rattle.ctr_buffer.specs.History.{after}
 use Rattle.ctr_buffer.specs.Stack.{Stack}
-use Rattle.indirect_regs.specs.Access.{Accessed}
+use Rattle.indirect_regs.specs.Access.{AccessResult}
 use Rattle.indirect_regs.specs.Unit.{after_any}
 use Rattle.rv_hart.specs.Processor.{put, at_next}
 use Rattle.rv_hart.specs.Step.{any_event, by_access}
@@ -13,7 +13,7 @@ pub folded_any : (s : Stack) (e : Option Event) → fold after s (any_event e) �
 folded_any s None = refl
 folded_any s (Some e) = refl
 
-pub access_lands : (h : HartState) (a : Accessed) (rd word old : ℕ)
+pub access_lands : (h : HartState) (a : AccessResult) (rd word old : ℕ)
     → a.answer ≡ Ok old
     → a.unit.stack ≡ after_any h.unit.stack a.event
     → record (reached h a) { core = at_next (put (reached h a).core rd old) } ≡ ran h (by_access a rd word h.core h.unit)

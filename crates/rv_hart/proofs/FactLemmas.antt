@@ -9,7 +9,7 @@ use Rattle.std.proofs.lemmas.List.{length-set}
 use Rattle.std.proofs.lemmas.List.Elements.{All-nil, All-cons, All-take, All-drop, All-append, All-set, All-replicate, All-from_recursion}
 use Rattle.byteorder.specs.Endian.{little_bytes, little_number}
 use Rattle.byteorder.specs.Numbers.{little_from-lt}
-use Rattle.ctr_bits.specs.Sext.{extended}
+use Rattle.ctr_bits.specs.Sext.{sign_extension}
 use Rattle.ctr_csrs.specs.Depths.{entries_of}
 use Rattle.ctr_csrs.specs.declared.mode.Mode.{Mode}
 use Rattle.ctr_csrs.specs.declared.mode.Mode.TheVariants as modes
@@ -27,10 +27,11 @@ use Rattle.ctr_rules.specs.declared.transfer.Act.TheVariants as acts
 use Rattle.ctr_rules.specs.FreezeBits.{freezes}
 use Rattle.ctr_rules.specs.RowTable.{Row, EmulatedCall, EmulatedReturn, EmulatedSwap, Within, TrapIn, ReturnOut, TrapOut, act_of}
 use Rattle.ctr_rules.specs.Admitted.{act_by, row_of, view_of}
+use Rattle.guest_modes.specs.declared.causes.TheConstants.{INTERRUPTS}
 use Rattle.guest_modes.specs.Facts.{IsPriv, IsPlace, IsSmall, IsKept, kept}
 use Rattle.guest_modes.specs.FactLemmas.{entered_keeps, left_keeps, handler_place, return_place, raised_keeps, cleared_keeps}
 use Rattle.guest_modes.specs.Fresh.{fresh_registers}
-use Rattle.guest_modes.specs.Interrupts.{picked, first_of, first_for, or_else, is_candidate}
+use Rattle.guest_modes.specs.Interrupts.{next_interrupt, first_of, first_for, or_else, is_candidate}
 use Rattle.guest_modes.specs.Traps.{interrupt_order, interrupt_taker, is_same}
 use Rattle.guest_modes.specs.Words.{IsWithin}
 use Rattle.guest_modes.specs.declared.gating.CsrFault.{CsrFault}
@@ -40,13 +41,13 @@ use Rattle.guest_modes.specs.declared.registers.Priv.{Priv}
 use Rattle.guest_modes.specs.declared.targets.Trap.{Trap}
 use Rattle.guest_modes.specs.declared.targets.Trap.TheVariants.{Exception, Interrupt}
 use Rattle.indirect_regs.specs.Unit.{UnitState, HasControls, CanTakeAny}
-use Rattle.indirect_regs.specs.Access.{Accessed, accessed}
+use Rattle.indirect_regs.specs.Access.{AccessResult, access_of}
 use Rattle.indirect_regs.specs.Facts.{IsWholeUnit, UseFits, AnswerFits, IsAccessed}
 use Rattle.indirect_regs.specs.FactLemmas.{accessed_keeps, with_stack}
 use Rattle.rv_alu.specs.Holds.{holds}
 use Rattle.rv_alu.specs.Value as alu
 use Rattle.rv_alu.specs.Sizes.{value_fits}
-use Rattle.rv_decode.specs.Rows.{decoded}
+use Rattle.rv_decode.specs.Rows.{instruction_of}
 use Rattle.rv_decode.specs.WordFits.{WordsFit}
 use Rattle.rv_decode.specs.declared.instruction.Instr.{Instr}
 use Rattle.rv_decode.specs.declared.instruction.Instr.TheVariants.{Lui, Auipc, Jal, Jalr, Branch, Load, Store, AluImm, Alu, Csr, Fence, FenceI, Ecall, Ebreak, Mret, Sret, Wfi, CtrClr}
@@ -109,22 +110,22 @@ pub loaded_fits : (width : Width) (signed : Bool) (bytes : List ℕ) (at : ℕ) 
 loaded_fits B signed bytes at h =
     let v = number_at B bytes at in
     let below : v < 2 ^ 8 = number_below 1 at bytes h in
-    of_either (λ (n : ℕ). n < 2 ^ 64) signed (extended 8 v) v
+    of_either (λ (n : ℕ). n < 2 ^ 64) signed (sign_extension 8 v) v
     (of_either (λ (n : ℕ). n < 2 ^ 64) (ltb v (2 ^ 7)) v (v + (2 ^ 64 - 2 ^ 8)) (omega (arith, below)) (omega (arith, below))) (omega (arith, below))
 loaded_fits H signed bytes at h =
     let v = number_at H bytes at in
     let below : v < 2 ^ 16 = number_below 2 at bytes h in
-    of_either (λ (n : ℕ). n < 2 ^ 64) signed (extended 16 v) v
+    of_either (λ (n : ℕ). n < 2 ^ 64) signed (sign_extension 16 v) v
     (of_either (λ (n : ℕ). n < 2 ^ 64) (ltb v (2 ^ 15)) v (v + (2 ^ 64 - 2 ^ 16)) (omega (arith, below)) (omega (arith, below))) (omega (arith, below))
 loaded_fits W signed bytes at h =
     let v = number_at W bytes at in
     let below : v < 2 ^ 32 = number_below 4 at bytes h in
-    of_either (λ (n : ℕ). n < 2 ^ 64) signed (extended 32 v) v
+    of_either (λ (n : ℕ). n < 2 ^ 64) signed (sign_extension 32 v) v
     (of_either (λ (n : ℕ). n < 2 ^ 64) (ltb v (2 ^ 31)) v (v + (2 ^ 64 - 2 ^ 32)) (omega (arith, below)) (omega (arith, below))) (omega (arith, below))
 loaded_fits D signed bytes at h =
     let v = number_at D bytes at in
     let below : v < 2 ^ 64 = number_below 8 at bytes h in
-    of_either (λ (n : ℕ). n < 2 ^ 64) signed (extended 64 v) v
+    of_either (λ (n : ℕ). n < 2 ^ 64) signed (sign_extension 64 v) v
     (of_either (λ (n : ℕ). n < 2 ^ 64) (ltb v (2 ^ 63)) v (v + (2 ^ 64 - 2 ^ 64)) (omega (arith, below)) (omega (arith, below))) (omega (arith, below))
 
 pub byte_small : (i n : ℕ) → byte_at i n < 256
@@ -365,7 +366,7 @@ pub any_can : (s : Stack) (e : Option Event) → CanTakeAny s e → CanTakeAll s
 any_can s None h = tt
 any_can s (Some e) h = (h, tt)
 
-pub answered_fits : (r : Result ℕ CsrFault) (a : Accessed) (rd word : ℕ) (c : CoreState) (u : UnitState) → AnswerFits r → IsAccessed u a → word < 2 ^ 64 → IsCore c → HasControls u
+pub answered_fits : (r : Result ℕ CsrFault) (a : AccessResult) (rd word : ℕ) (c : CoreState) (u : UnitState) → AnswerFits r → IsAccessed u a → word < 2 ^ 64 → IsCore c → HasControls u
     → IsStep u (answered r a rd word c u)
 answered_fits (Ok old) a rd word c u p h w k q =
     let d = put_fits (record c { csrs = a.registers }) rd old (record { x = k.x; zero = k.zero; pc = k.pc; csrs = h.registers }) p in
@@ -381,7 +382,7 @@ answered_fits (Err Virtual) a rd word c u p h w k q = trapped_fits (Exception 22
 pub access_fits : (op : CsrOp) (rd : ℕ) (arg : CsrArg) (csr word : ℕ) (c : CoreState) (u : UnitState) (bytes : List ℕ) → operand arg c < 2 ^ 64 → word < 2 ^ 64
     → IsCore c → IsWholeUnit u → IsStep u (executed (Csr op rd arg csr) word c u bytes)
 access_fits op rd arg csr word c u bytes p w h k =
-    let a = accessed u c.csrs c.mode csr (use_of op arg c) in
+    let a = access_of u c.csrs c.mode csr (use_of op arg c) in
     let is = accessed_keeps u c.csrs c.mode csr (use_of op arg c) k h.csrs (use_fits op arg c p) in
     answered_fits a.answer a rd word c u is.answer is w h k.controls
 
@@ -421,7 +422,7 @@ executed_fits Fence word c u bytes fits w h k b = plain_fits Fence word c u byte
 executed_fits FenceI word c u bytes fits w h k b = plain_fits FenceI word c u bytes fits w h k b
 executed_fits Wfi word c u bytes fits w h k b = plain_fits Wfi word c u bytes fits w h k b
 
-module _ (words : (w : ℕ) → IfSome (decoded w) WordsFit) where
+module _ (words : (w : ℕ) → IfSome (instruction_of w) WordsFit) where
   -- up to the step
   pub instruction_fits : (i : Option Instr) (word : ℕ) (s : MachineState) → IfSome i WordsFit → word < 2 ^ 64 → IsState s → IsMade s.unit (by_instruction i word s)
   instruction_fits None word s fits w h = record { step = trapped_fits (Exception 2) word s.core s.unit (lit< tt) w h.core h.unit.controls; bytes = h.bytes }
@@ -436,7 +437,7 @@ module _ (words : (w : ℕ) → IfSome (decoded w) WordsFit) where
 
   pub word_fits : (w : Option ℕ) (s : MachineState) → IfSome w (λ (n : ℕ). n < 2 ^ 64) → IsState s → IsMade s.unit (by_word w s)
   word_fits None s p h = record { step = trapped_fits (Exception 1) s.core.pc s.core s.unit (lit< tt) h.core.pc.fits h.core h.unit.controls; bytes = h.bytes }
-  word_fits (Some word) s p h = instruction_fits (decoded word) word s (words word) p h
+  word_fits (Some word) s p h = instruction_fits (instruction_of word) word s (words word) p h
 
   pub lowered_fits : (i : ℕ) (c : CoreState) → IsCore c → IsCore (lowered i c)
   lowered_fits i c h = record { x = h.x; zero = h.zero; pc = h.pc; csrs = cleared_keeps c.csrs (2 ^ 64 - 1 - 2 ^ i) h.csrs }
@@ -463,28 +464,28 @@ module _ (words : (w : ℕ) → IfSome (decoded w) WordsFit) where
   pub first_for_small : (p : Priv) (from to : Mode) → IfSome (first_for p from to) (λ (n : ℕ). n < 64)
   first_for_small p from to = first_small (λ (i : ℕ). is_candidate p from i && is_same (interrupt_taker p i) to) interrupt_order order_small
 
-  pub picked_small : (p : Priv) (m : Mode) → IfSome (picked p m) (λ (n : ℕ). n < 64)
+  pub picked_small : (p : Priv) (m : Mode) → IfSome (next_interrupt p m) (λ (n : ℕ). n < 64)
   picked_small p m =
       else_small (first_for p m modes.M) (or_else (first_for p m modes.S) (first_for p m modes.Vs)) (first_for_small p m modes.M)
       (else_small (first_for p m modes.S) (first_for p m modes.Vs) (first_for_small p m modes.S) (first_for_small p m modes.Vs))
 
-  pub raised_fits : (pending : ℕ) (s : MachineState) → IsWithin 0x2EEE pending → IsState s → IsState (raised pending s)
+  pub raised_fits : (pending : ℕ) (s : MachineState) → IsWithin INTERRUPTS pending → IsState s → IsState (raised pending s)
   raised_fits pending s p h = record {
     core = record { x = h.core.x; zero = h.core.zero; pc = h.core.pc; csrs = raised_keeps s.core.csrs pending p h.core.csrs };
     unit = h.unit;
     bytes = h.bytes;
   }
 
-  pub step_fits : (pending : ℕ) (s : MachineState) → IsWithin 0x2EEE pending → IsState s → IsMade s.unit (step_of pending s)
+  pub step_fits : (pending : ℕ) (s : MachineState) → IsWithin INTERRUPTS pending → IsState s → IsMade s.unit (step_of pending s)
   step_fits pending s p h =
       let now = raised pending s in
-      interrupt_fits (picked now.core.csrs now.core.mode) now (picked_small now.core.csrs now.core.mode) (raised_fits pending s p h)
+      interrupt_fits (next_interrupt now.core.csrs now.core.mode) now (picked_small now.core.csrs now.core.mode) (raised_fits pending s p h)
 
   pub fold_keeps : (s : Stack) (es : List Event) → IsBuffer s → AreEvents es → IsBuffer (fold after s es)
   fold_keeps s [] h p = h
   fold_keeps s (e ∷ es) h p = fold_keeps (after s e) es (buffers_stay s e h p.0) p.1
 
-  pub next_keeps : (pending : ℕ) (s : MachineState) → IsWithin 0x2EEE pending → IsState s → IsState (next pending s)
+  pub next_keeps : (pending : ℕ) (s : MachineState) → IsWithin INTERRUPTS pending → IsState s → IsState (next pending s)
   next_keeps pending s p h =
       let is = step_fits pending s p h in
       let m = step_of pending s in

@@ -6,4 +6,7 @@ mod TaskLemmas
 mod FactLemmas
 mod EndingLemmas
 mod RecordLemmas
+mod TrapRecordLemmas
+mod DestinationLemmas
+mod FrozenLemmas
 mod UnreturnedLemmas

@@ -12,13 +12,13 @@ use Rattle.ctr_rules.specs.declared.transfer.Transfer.{Transfer}
 use Rattle.ctr_rules.specs.Admitted.{act_by, row_of, view_of}
 use Rattle.ctr_rules.specs.FreezeBits.{freezes}
 use Rattle.ctr_rules.specs.RowTable.{Row, EmulatedCall, EmulatedReturn, EmulatedSwap, Within, TrapIn, ReturnOut, TrapOut, act_of}
-use Rattle.guest_modes.specs.Interrupts.{picked}
+use Rattle.guest_modes.specs.Interrupts.{next_interrupt}
 use Rattle.guest_modes.specs.declared.returning.Ret.{Ret}
 use Rattle.indirect_regs.specs.Unit.{UnitState}
 use Rattle.rv_alu.specs.Holds.{holds}
 use Rattle.rv_decode.specs.declared.instruction.Instr.{Instr}
 use Rattle.rv_decode.specs.declared.instruction.Instr.TheVariants.{Lui, Auipc, Jal, Jalr, Branch, Load, Store, AluImm, Alu, Csr, Fence, FenceI, Ecall, Ebreak, Mret, Sret, Wfi, CtrClr}
-use Rattle.rv_decode.specs.Rows.{decoded}
+use Rattle.rv_decode.specs.Rows.{instruction_of}
 use Rattle.xfer_class.specs.declared.types.XferType.{XferType}
 use Rattle.xfer_class.specs.declared.types.XferType.TheVariants as types
 use Rattle.xfer_class.specs.Missed.{missed_of}
@@ -246,7 +246,7 @@ pub word_record : (w : Option ℕ) (s : MachineState) (i : Instr) (e : Entry) �
     → TakesNoTrap (word_ending w s) → HasEntry e (by_word w s).step.events
     → IsRecordOf i (is_taken s.core.x i) s.core.pc (by_word w s).step.core.pc e
 word_record None s i e is transfer calm h = absurd (cc is)
-word_record (Some word) s i e is transfer calm h = decoded_record (decoded word) word s i e is transfer calm h
+word_record (Some word) s i e is transfer calm h = decoded_record (instruction_of word) word s i e is transfer calm h
 
 pub interrupt_record : (p : Option ℕ) (s : MachineState) (i : Instr) (e : Entry) → instruction_by p s ≡ Some i → IsTransfer i
     → TakesNoTrap (interrupt_ending p s) → HasEntry e (by_interrupt p s).step.events
@@ -257,4 +257,4 @@ interrupt_record None s i e is transfer calm h = word_record (fetched s) s i e i
 pub transfers_record_themselves : TransfersRecordThemselves
 transfers_record_themselves pending s i e is transfer calm h =
     let now = raised pending s in
-    interrupt_record (picked now.core.csrs now.core.mode) now i e is transfer calm h
+    interrupt_record (next_interrupt now.core.csrs now.core.mode) now i e is transfer calm h

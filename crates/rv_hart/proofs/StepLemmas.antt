@@ -1,5 +1,5 @@
 -- The laws of one step, by cases of its definition.
-use Rattle.std.proofs.Common.{◌≡◌, refl, ap, ◌∙◌, ℕ, zero, suc, ◌+◌, ◌-◌, ◌%◌, ◌≤◌, Bool, true, false, ◌&&◌, cond, nat_le, nat_eq, List, [], ◌∷◌, ◌++◌, length, take, drop, Option, Some, None, Result, Ok, Err, arith, length-append}
+use Rattle.std.proofs.Common.{◌≡◌, refl, ap, ◌∙◌, ℕ, zero, suc, ◌+◌, ◌-◌, ◌%◌, ◌^◌, ◌≤◌, Bool, true, false, ◌&&◌, not, cond, bit_and, bit_or, nat_le, nat_eq, List, [], ◌∷◌, ◌++◌, length, take, drop, Option, Some, None, Result, Ok, Err, arith, length-append}
 use Rattle.std.proofs.lemmas.Bool.{leb-true, and_parts, ne_eqb, cond-false}
 use Rattle.std.proofs.lemmas.List.{length-take, length-drop}
 use Rattle.std.specs.Option.{IfSome}
@@ -10,7 +10,7 @@ use Rattle.ctr_csrs.specs.declared.mode.Mode.TheVariants as modes
 use Rattle.ctr_buffer.specs.declared.event.Event.{Event}
 use Rattle.ctr_rules.specs.declared.transfer.Act.{Act}
 use Rattle.ctr_rules.specs.declared.transfer.Act.TheVariants as acts
-use Rattle.guest_modes.specs.Interrupts.{picked}
+use Rattle.guest_modes.specs.Interrupts.{next_interrupt}
 use Rattle.guest_modes.specs.declared.gating.CsrFault.{CsrFault}
 use Rattle.guest_modes.specs.declared.gating.CsrFault.TheVariants.{Illegal, Virtual}
 use Rattle.guest_modes.specs.declared.returning.Ret.{Ret}
@@ -18,10 +18,13 @@ use Rattle.guest_modes.specs.declared.returning.Ret.TheVariants as rets
 use Rattle.guest_modes.specs.declared.targets.Trap.{Trap}
 use Rattle.guest_modes.specs.declared.targets.Trap.TheVariants.{Exception, Interrupt}
 use Rattle.indirect_regs.specs.Unit.{UnitState}
-use Rattle.indirect_regs.specs.Access.{Accessed, accessed}
+use Rattle.indirect_regs.specs.declared.accessing.CsrUse.TheVariants as uses
+use Rattle.indirect_regs.specs.Access.{AccessResult, access_of, is_write, new_value}
+use Rattle.rv_decode.specs.declared.instruction.CsrArg.TheVariants.{Reg, Imm}
+use Rattle.rv_decode.specs.declared.operations.CsrOp.TheVariants.{Write, Set, Clear}
 use Rattle.rv_alu.specs.Holds.{holds}
 use Rattle.rv_alu.specs.Value as alu
-use Rattle.rv_decode.specs.Rows.{decoded}
+use Rattle.rv_decode.specs.Rows.{instruction_of}
 use Rattle.rv_decode.specs.declared.instruction.Instr.{Instr}
 use Rattle.rv_decode.specs.declared.instruction.Instr.TheVariants.{Lui, Auipc, Jal, Jalr, Branch, Load, Store, AluImm, Alu, Csr, Fence, FenceI, Ecall, Ebreak, Mret, Sret, Wfi, CtrClr}
 use Rattle.rv_decode.specs.declared.operations.Width.{Width}
@@ -34,7 +37,7 @@ use Rattle.rv_hart.specs.Memory.{base, place_of, bytes_of, loaded, stored}
 use Rattle.rv_hart.specs.Effect.{Effect, effect, even, jump_of, raises, goes_to, jumps, branches, loads, loads_at, stores, stores_at, call_cause, machine_return, supervisor_return}
 use Rattle.rv_hart.specs.Transfers.{events_by, act_in}
 use Rattle.rv_hart.specs.Step.{MachineState, trap_transfer, return_transfer, jump_transfer, trapped, concluded, answered, clears, by_effect, executed, by_instruction, by_word, by_interrupt, fetched, lowered, raised, use_of, any_event}
-use Rattle.rv_hart.specs.StepLaws.{Leaves, ExceptionsWriteNothing, MemoryKeepsItsSize, NoStepChangesX0, AtMostOneEvent}
+use Rattle.rv_hart.specs.StepLaws.{Leaves, ExceptionsWriteNothing, MemoryKeepsItsSize, NoStepChangesX0, AtMostOneEvent, AccessesWriteByNumber}
 
 -- what holds of both values of a choice holds of the choice
 pub of_either : {A : Type 0} (P : A → Type 0) (b : Bool) (x y : A) → P x → P y → P (cond b x y)
@@ -196,7 +199,7 @@ instruction_size (Some i) word s = effect_size i word s.core s.mem
 
 pub word_size : (w : Option ℕ) (s : MachineState) → length (by_word w s).mem ≡ length s.mem
 word_size None s = refl
-word_size (Some word) s = instruction_size (decoded word) word s
+word_size (Some word) s = instruction_size (instruction_of word) word s
 
 pub interrupt_size : (i : Option ℕ) (s : MachineState) → length (by_interrupt i s).mem ≡ length s.mem
 interrupt_size (Some i) s = refl
@@ -205,7 +208,7 @@ interrupt_size None s = word_size (fetched s) s
 pub memory_keeps_its_size : MemoryKeepsItsSize
 memory_keeps_its_size pending s =
     let now = raised pending s in
-    interrupt_size (picked now.core.csrs now.core.mode) now
+    interrupt_size (next_interrupt now.core.csrs now.core.mode) now
 
 -- x0 is written by none of them
 pub later_set : (xs : List ℕ) (r value : ℕ) → slice_index (slice_set xs (suc r) value) 0 ≡ slice_index xs 0
@@ -237,7 +240,7 @@ concluded_x (Goes (Some kind) pc) c u = refl
 concluded_x (Returns ret) c u = refl
 concluded_x (Raises cause value) c u = refl
 
-pub answered_x0 : (answer : Result ℕ CsrFault) (a : Accessed) (rd word : ℕ) (c : CoreState) (u : UnitState)
+pub answered_x0 : (answer : Result ℕ CsrFault) (a : AccessResult) (rd word : ℕ) (c : CoreState) (u : UnitState)
     → slice_index (answered answer a rd word c u).core.x 0 ≡ slice_index c.x 0
 answered_x0 (Ok old) a rd word c u = put_x0 (record c { csrs = a.registers }) rd old
 answered_x0 (Err Illegal) a rd word c u = refl
@@ -271,7 +274,7 @@ pub few_any : (e : Option Event) → length (any_event e) ≤ 1
 few_any None = omega arith
 few_any (Some e) = omega arith
 
-pub answered_few : (answer : Result ℕ CsrFault) (a : Accessed) (rd word : ℕ) (c : CoreState) (u : UnitState)
+pub answered_few : (answer : Result ℕ CsrFault) (a : AccessResult) (rd word : ℕ) (c : CoreState) (u : UnitState)
     → length (answered answer a rd word c u).events ≤ 1
 answered_few (Ok old) a rd word c u = few_any a.event
 answered_few (Err Illegal) a rd word c u = trapped_few (Exception 2) word c u
@@ -294,7 +297,7 @@ concluded_x0 i word c u bytes =
 pub executed_x0 : (i : Instr) (word : ℕ) (c : CoreState) (u : UnitState) (bytes : List ℕ)
     → slice_index (executed i word c u bytes).core.x 0 ≡ slice_index c.x 0
 executed_x0 (Csr op rd arg csr) word c u bytes =
-    let a = accessed u c.csrs c.mode csr (use_of op arg c) in
+    let a = access_of u c.csrs c.mode csr (use_of op arg c) in
     answered_x0 a.answer a rd word c u
 executed_x0 CtrClr word c u bytes = clears_x0 c.mode word c u
 executed_x0 (Lui rd imm) word c u bytes = concluded_x0 (Lui rd imm) word c u bytes
@@ -316,7 +319,7 @@ executed_x0 Wfi word c u bytes = concluded_x0 Wfi word c u bytes
 
 pub executed_few : (i : Instr) (word : ℕ) (c : CoreState) (u : UnitState) (bytes : List ℕ) → length (executed i word c u bytes).events ≤ 1
 executed_few (Csr op rd arg csr) word c u bytes =
-    let a = accessed u c.csrs c.mode csr (use_of op arg c) in
+    let a = access_of u c.csrs c.mode csr (use_of op arg c) in
     answered_few a.answer a rd word c u
 executed_few CtrClr word c u bytes = clears_few c.mode word c u
 executed_few (Lui rd imm) word c u bytes =
@@ -359,7 +362,7 @@ instruction_x0 (Some i) word s = executed_x0 i word s.core s.unit s.mem
 
 pub word_x0 : (w : Option ℕ) (s : MachineState) → slice_index (by_word w s).step.core.x 0 ≡ slice_index s.core.x 0
 word_x0 None s = refl
-word_x0 (Some word) s = instruction_x0 (decoded word) word s
+word_x0 (Some word) s = instruction_x0 (instruction_of word) word s
 
 pub interrupt_x0 : (i : Option ℕ) (s : MachineState) → slice_index (by_interrupt i s).step.core.x 0 ≡ slice_index s.core.x 0
 interrupt_x0 (Some i) s = refl
@@ -368,7 +371,7 @@ interrupt_x0 None s = word_x0 (fetched s) s
 pub no_step_changes_x0 : NoStepChangesX0
 no_step_changes_x0 pending s =
     let now = raised pending s in
-    interrupt_x0 (picked now.core.csrs now.core.mode) now
+    interrupt_x0 (next_interrupt now.core.csrs now.core.mode) now
 
 pub instruction_few : (i : Option Instr) (word : ℕ) (s : MachineState) → length (by_instruction i word s).step.events ≤ 1
 instruction_few None word s = trapped_few (Exception 2) word s.core s.unit
@@ -376,7 +379,7 @@ instruction_few (Some i) word s = executed_few i word s.core s.unit s.mem
 
 pub word_few : (w : Option ℕ) (s : MachineState) → length (by_word w s).step.events ≤ 1
 word_few None s = trapped_few (Exception 1) s.core.pc s.core s.unit
-word_few (Some word) s = instruction_few (decoded word) word s
+word_few (Some word) s = instruction_few (instruction_of word) word s
 
 pub interrupt_few : (i : Option ℕ) (s : MachineState) → length (by_interrupt i s).step.events ≤ 1
 interrupt_few (Some i) s = trapped_few (Interrupt i) 0 (lowered i s.core) s.unit
@@ -385,4 +388,33 @@ interrupt_few None s = word_few (fetched s) s
 pub at_most_one_event : AtMostOneEvent
 at_most_one_event pending s =
     let now = raised pending s in
-    interrupt_few (picked now.core.csrs now.core.mode) now
+    interrupt_few (next_interrupt now.core.csrs now.core.mode) now
+
+-- CSR instructions by the number of rs1 or the immediate
+pub sets_unless : (b : Bool) (old bits : ℕ)
+    → (is_write (cond b uses.Read (uses.Set bits)) ≡ not b)
+    × (new_value (cond b uses.Read (uses.Set bits)) old ≡ cond (not b) (Some (bit_or old bits)) None)
+sets_unless true old bits = (refl, refl)
+sets_unless false old bits = (refl, refl)
+
+pub clears_unless : (b : Bool) (old bits : ℕ)
+    → (is_write (cond b uses.Read (uses.Clear bits)) ≡ not b)
+    × (new_value (cond b uses.Read (uses.Clear bits)) old
+    ≡ cond (not b) (Some (bit_and old (2 ^ 64 - 1 - bits))) None)
+clears_unless true old bits = (refl, refl)
+clears_unless false old bits = (refl, refl)
+
+pub accesses_write_by_number : AccessesWriteByNumber
+accesses_write_by_number Write arg c old = record { writes = refl; value = refl }
+accesses_write_by_number Set (Reg r) c old =
+    let h = sets_unless (nat_eq r 0) old (reg c r) in
+    record { writes = h.0; value = h.1 }
+accesses_write_by_number Set (Imm n) c old =
+    let h = sets_unless (nat_eq n 0) old n in
+    record { writes = h.0; value = h.1 }
+accesses_write_by_number Clear (Reg r) c old =
+    let h = clears_unless (nat_eq r 0) old (reg c r) in
+    record { writes = h.0; value = h.1 }
+accesses_write_by_number Clear (Imm n) c old =
+    let h = clears_unless (nat_eq n 0) old n in
+    record { writes = h.0; value = h.1 }

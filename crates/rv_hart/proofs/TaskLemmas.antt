@@ -9,6 +9,7 @@ use Rattle.ctr_csrs.specs.ControlFigure.{m_mask, s_mask}
 use Rattle.ctr_csrs.specs.Depths.{entries_of}
 use Rattle.ctr_csrs.specs.RegisterLaws.{least_entries}
 use Rattle.ctr_buffer.specs.Entry.{zero_entry}
+use Rattle.guest_modes.specs.declared.causes.TheConstants.{INTERRUPTS}
 use Rattle.guest_modes.specs.Numbers.{is_in}
 use Rattle.guest_modes.specs.Words.{IsWithin}
 use Rattle.guest_modes.specs.Traps.{is_cause, interrupt_order}
@@ -34,9 +35,9 @@ passes_in test (m ∷ ms) n e all =
       | inr more ↦ passes_in test ms n more parts.1
     ]
 
-pub cause_within : (i : ℕ) → IsTrue (is_cause (Interrupt i)) → IsWithin 0x2EEE (2 ^ i)
+pub cause_within : (i : ℕ) → IsTrue (is_cause (Interrupt i)) → IsWithin INTERRUPTS (2 ^ i)
 cause_within i is =
-    eqb-true (bit_and (2 ^ i) 0x2EEE) (2 ^ i) (passes_in (λ (n : ℕ). nat_eq (bit_and (2 ^ n) 0x2EEE) (2 ^ n)) interrupt_order i is refl)
+    eqb-true (bit_and (2 ^ i) INTERRUPTS) (2 ^ i) (passes_in (λ (n : ℕ). nat_eq (bit_and (2 ^ n) INTERRUPTS) (2 ^ n)) interrupt_order i is refl)
 
 pub or_within : (mask a b : ℕ) → IsWithin mask a → IsWithin mask b → IsWithin mask (bit_or a b)
 or_within mask a b p q = same_from_bits (bit_and (bit_or a b) mask) (bit_or a b) (λ i.
@@ -44,13 +45,13 @@ or_within mask a b p q = same_from_bits (bit_and (bit_or a b) mask) (bit_or a b)
     let same_b = ap (λ (n : ℕ). n / 2 ^ i % 2) q in
     omega (arith, bit_at_and (bit_or a b) mask i, bit_at_or a b i, bit_at_and a mask i, bit_at_and b mask i, same_a, same_b))
 
-pub within_either : (b : Bool) (x y : ℕ) → IsWithin 0x2EEE x → IsWithin 0x2EEE y → IsWithin 0x2EEE (cond b x y)
+pub within_either : (b : Bool) (x y : ℕ) → IsWithin INTERRUPTS x → IsWithin INTERRUPTS y → IsWithin INTERRUPTS (cond b x y)
 within_either true x y at_x at_y = at_x
 within_either false x y at_x at_y = at_y
 
-pub causes_within : (irqs : List Irq) (n : ℕ) → AreInterrupts irqs → IsWithin 0x2EEE (causes irqs n)
+pub causes_within : (irqs : List Irq) (n : ℕ) → AreInterrupts irqs → IsWithin INTERRUPTS (causes irqs n)
 causes_within [] n are = refl
 causes_within (q ∷ qs) n are =
     let later = causes_within qs n are.1 in
     within_either (nat_eq q.step n) (bit_or (2 ^ q.cause) (causes qs n)) (causes qs n)
-    (or_within 0x2EEE (2 ^ q.cause) (causes qs n) (cause_within q.cause are.0) later) later
+    (or_within INTERRUPTS (2 ^ q.cause) (causes qs n) (cause_within q.cause are.0) later) later

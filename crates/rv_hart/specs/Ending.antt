@@ -1,30 +1,36 @@
 -- How a step ends: it goes on at an address, returns from a trap, or takes a trap (RISC-V Privileged Architecture,
 -- "Environment Call and Breakpoint", "Trap-Return Instructions", "Wait for Interrupt" and "Virtual-Instruction
 -- Exception"; Control Transfer Records 1.0, SCTRCLR).
-use Rattle.std.specs.Prelude.{◌≡◌, ℕ, List, [], ◌∷◌, fold, Option, Some, None, Result, Ok, Err}
+use Rattle.std.specs.Prelude.{◌≡◌, ◌≢◌, ◌⊎◌, ℕ, ◌+◌, ◌*◌, ◌/◌, ◌%◌, ◌<◌, ◌≤◌, Bool, true, false, List, [], ◌∷◌, fold, length, replicate, Option, Some, None, Result, Ok, Err}
 use Rattle.ctr_csrs.specs.declared.mode.Mode.{Mode}
 use Rattle.ctr_csrs.specs.declared.mode.Mode.TheVariants as modes
+use Rattle.ctr_buffer.specs.Entry.{zero_entry}
 use Rattle.ctr_buffer.specs.History.{after}
+use Rattle.ctr_buffer.specs.Stack.{size_of}
 use Rattle.guest_modes.specs.declared.gating.CsrFault.{CsrFault}
 use Rattle.guest_modes.specs.declared.gating.CsrFault.TheVariants.{Illegal, Virtual}
 use Rattle.guest_modes.specs.declared.returning.Ret.{Ret}
 use Rattle.guest_modes.specs.declared.returning.Ret.TheVariants as rets
 use Rattle.guest_modes.specs.declared.targets.Trap.{Trap}
 use Rattle.guest_modes.specs.declared.targets.Trap.TheVariants.{Exception, Interrupt}
-use Rattle.guest_modes.specs.Entry.{entered, handler_of}
-use Rattle.guest_modes.specs.Interrupts.{picked}
-use Rattle.guest_modes.specs.Returns.{left, mode_after, pc_after}
+use Rattle.guest_modes.specs.Entry.{after_trap, handler_of}
+use Rattle.guest_modes.specs.Interrupts.{next_interrupt}
+use Rattle.guest_modes.specs.Returns.{after_return, mode_after, pc_after}
 use Rattle.guest_modes.specs.Traps.{target_of}
-use Rattle.indirect_regs.specs.Access.{accessed}
+use Rattle.indirect_regs.specs.Access.{access_of}
 use Rattle.indirect_regs.specs.Unit.{UnitState, cleared_unit}
 use Rattle.rv_decode.specs.declared.instruction.Instr.{Instr}
-use Rattle.rv_decode.specs.declared.instruction.Instr.TheVariants.{Csr, CtrClr, Ecall, Ebreak, Mret, Sret, Wfi, Fence, FenceI}
-use Rattle.rv_decode.specs.Rows.{decoded}
+use Rattle.rv_decode.specs.declared.operations.Cond.{Cond}
+use Rattle.rv_decode.specs.declared.operations.Width.{Width}
+use Rattle.rv_alu.specs.Holds.{holds}
+use Rattle.rv_decode.specs.declared.instruction.Instr.TheVariants.{Jal, Jalr, Branch, Load, Store, Csr, CtrClr, Ecall, Ebreak, Mret, Sret, Wfi, Fence, FenceI}
+use Rattle.rv_decode.specs.Rows.{instruction_of}
 use Rattle.rv_hart.specs.declared.outcome.Outcome.{Outcome}
 use Rattle.rv_hart.specs.declared.outcome.Outcome.TheVariants.{Goes, Returns, Raises}
 use Rattle.rv_hart.specs.Effect.{effect}
-use Rattle.rv_hart.specs.Processor.{CoreState}
-use Rattle.rv_hart.specs.Step.{MachineState, executed, fetched, lowered, next, raised, use_of}
+use Rattle.rv_hart.specs.Memory.{bytes_of}
+use Rattle.rv_hart.specs.Processor.{CoreState, plus, reg}
+use Rattle.rv_hart.specs.Step.{MachineState, Step, executed, fetched, lowered, next, raised, use_of}
 
 -- a trap has the value that its trap value register takes
 pub data Ending : Type 0 where
@@ -51,7 +57,7 @@ clear_ending _ word = GoesOn
 
 -- the end of an instruction, whose word is given too
 abbrev pub instruction_ending : Instr → ℕ → CoreState → UnitState → List ℕ → Ending
-instruction_ending (Csr op rd arg csr) word c u bytes = access_ending (accessed u c.csrs c.mode csr (use_of op arg c)).answer word
+instruction_ending (Csr op rd arg csr) word c u bytes = access_ending (access_of u c.csrs c.mode csr (use_of op arg c)).answer word
 instruction_ending CtrClr word c u bytes = clear_ending c.mode word
 instruction_ending i word c u bytes = outcome_ending (effect i word c bytes).outcome
 
@@ -62,7 +68,7 @@ decoded_ending (Some i) word s = instruction_ending i word s.core s.unit s.mem
 
 abbrev pub word_ending : Option ℕ → MachineState → Ending
 word_ending None s = Trapped (Exception 1) s.core.pc
-word_ending (Some word) s = decoded_ending (decoded word) word s
+word_ending (Some word) s = decoded_ending (instruction_of word) word s
 
 abbrev pub interrupt_ending : Option ℕ → MachineState → Ending
 interrupt_ending (Some i) s = Trapped (Interrupt i) 0
@@ -72,7 +78,7 @@ interrupt_ending None s = word_ending (fetched s) s
 abbrev pub ending : ℕ → MachineState → Ending
 ending pending s =
     let now = raised pending s in
-    interrupt_ending (picked now.core.csrs now.core.mode) now
+    interrupt_ending (next_interrupt now.core.csrs now.core.mode) now
 
 -- an interrupt that is taken is pending no longer
 abbrev pub trap_begins : Trap → CoreState → CoreState
@@ -84,11 +90,11 @@ trap_core trap value c = record {
   x = c.x;
   pc = handler_of c.csrs c.mode trap;
   mode = target_of c.csrs c.mode trap;
-  csrs = entered c.csrs c.mode trap c.pc value;
+  csrs = after_trap c.csrs c.mode trap c.pc value;
 }
 
 abbrev pub return_core : Ret → CoreState → CoreState
-return_core ret c = record { x = c.x; pc = pc_after c.csrs ret; mode = mode_after c.csrs ret; csrs = left c.csrs ret }
+return_core ret c = record { x = c.x; pc = pc_after c.csrs ret; mode = mode_after c.csrs ret; csrs = after_return c.csrs ret }
 
 -- what an end other than going on leaves of a state: memory and registers as they were, the rest by the trap or the return
 abbrev pub EndLeaves : Ending → MachineState → MachineState → Type 0
@@ -162,7 +168,57 @@ LinesHold (l ∷ ls) word c u bytes =
 abbrev pub EndingsByMode : Type 0
 EndingsByMode = (word : ℕ) (c : CoreState) (u : UnitState) (bytes : List ℕ) → LinesHold ending_table word c u bytes
 
--- what a monitor's clear makes of a unit is what SCTRCLR in M makes of it
-abbrev pub MonitorClearsAsSctrclr : Type 0
-MonitorClearsAsSctrclr = (word : ℕ) (c : CoreState) (u : UnitState) (bytes : List ℕ) →
-    record u { stack = fold after u.stack (executed CtrClr word (record c { mode = modes.M }) u bytes).events } ≡ cleared_unit u
+-- the unit after a step, as the state after it has it
+abbrev pub unit_after : Step → UnitState → UnitState
+unit_after step u = record step.unit { stack = fold after u.stack step.events }
+
+-- SCTRCLR, where the mode may execute it, makes every entry zero; the depth, the pointer, FROZEN, the
+-- controls and the select stay. A monitor's clear makes the same of a unit
+pub record ClearsEntries (word : ℕ) (c : CoreState) (u : UnitState) (bytes : List ℕ) : Type 0 where
+  pub machine : unit_after (executed CtrClr word (record c { mode = modes.M }) u bytes) u ≡ cleared_unit u
+  pub supervisor : unit_after (executed CtrClr word (record c { mode = modes.S }) u bytes) u ≡ cleared_unit u
+  pub guest : unit_after (executed CtrClr word (record c { mode = modes.Vs }) u bytes) u ≡ cleared_unit u
+  pub monitor : cleared_unit u
+      ≡ record u { stack = record u.stack { slots = replicate (size_of u.stack) zero_entry } }
+
+abbrev pub SctrclrClearsEntries : Type 0
+SctrclrClearsEntries =
+    (word : ℕ) (c : CoreState) (u : UnitState) (bytes : List ℕ) → ClearsEntries word c u bytes
+
+-- a load or store of so many bytes at an address: one that isn't a multiple of them is misaligned, also
+-- where it lies outside; outside of a memory of this size, from 80000000 on, is an access fault
+pub record EndsByAddress (misaligned_cause fault_cause address count size : ℕ) (end : Ending) : Type 0 where
+  pub misaligned : address % count ≢ 0 → end ≡ Trapped (Exception misaligned_cause) address
+  pub outside : address % count ≡ 0
+      → (address < 0x80000000) ⊎ (0x80000000 + size < address + count)
+      → end ≡ Trapped (Exception fault_cause) address
+  pub inside : address % count ≡ 0 → 0x80000000 ≤ address → address + count ≤ 0x80000000 + size
+      → end ≡ GoesOn
+
+-- a jump, or a branch that is taken: its target is a multiple of 4, or it is misaligned
+pub record EndsByTarget (target : ℕ) (end : Ending) : Type 0 where
+  pub misaligned : target % 4 ≢ 0 → end ≡ Trapped (Exception 0) target
+  pub aligned : target % 4 ≡ 0 → end ≡ GoesOn
+
+-- loads, stores, jumps and branches, in every mode
+pub record AddressesEnd (word : ℕ) (c : CoreState) (u : UnitState) (bytes : List ℕ) : Type 0 where
+  pub loads : (width : Width) (signed : Bool) (rd rs1 off : ℕ) →
+      EndsByAddress 4 5 (plus (reg c rs1) off) (bytes_of width) (length bytes)
+      (instruction_ending (Load width signed rd rs1 off) word c u bytes)
+  pub stores : (width : Width) (rs1 rs2 off : ℕ) →
+      EndsByAddress 6 7 (plus (reg c rs1) off) (bytes_of width) (length bytes)
+      (instruction_ending (Store width rs1 rs2 off) word c u bytes)
+  pub jumps : (rd off : ℕ) →
+      EndsByTarget (plus c.pc off) (instruction_ending (Jal rd off) word c u bytes)
+  pub indirect_jumps : (rd rs1 off : ℕ) →
+      EndsByTarget (plus (reg c rs1) off / 2 * 2) (instruction_ending (Jalr rd rs1 off) word c u bytes)
+  pub branches_taken : (condition : Cond) (rs1 rs2 off : ℕ) →
+      holds condition (reg c rs1) (reg c rs2) ≡ true
+      → EndsByTarget (plus c.pc off) (instruction_ending (Branch condition rs1 rs2 off) word c u bytes)
+  pub branches_not_taken : (condition : Cond) (rs1 rs2 off : ℕ) →
+      holds condition (reg c rs1) (reg c rs2) ≡ false
+      → instruction_ending (Branch condition rs1 rs2 off) word c u bytes ≡ GoesOn
+
+abbrev pub EndingsByAddress : Type 0
+EndingsByAddress =
+    (word : ℕ) (c : CoreState) (u : UnitState) (bytes : List ℕ) → AddressesEnd word c u bytes

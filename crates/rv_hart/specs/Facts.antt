@@ -6,6 +6,7 @@ use Rattle.ctr_buffer.specs.declared.event.Event.TheVariants.{SetDepth}
 use Rattle.ctr_buffer.specs.Facts.{IsEvent}
 use Rattle.ctr_buffer.specs.History.{CanTakeAll}
 use Rattle.ctr_buffer.specs.Stack.{empty}
+use Rattle.guest_modes.specs.declared.causes.TheConstants.{INTERRUPTS}
 use Rattle.guest_modes.specs.Facts.{IsPriv, IsPlace}
 use Rattle.guest_modes.specs.Words.{IsWithin}
 use Rattle.indirect_regs.specs.Facts.{IsWholeUnit}
@@ -64,7 +65,7 @@ pub record CanReplay (t : Task) (history : List Event) : Type 0 where
 
 -- a step, and any number of them, keep the facts of a state
 abbrev pub NextKeeps : Type 0
-NextKeeps = (pending : ℕ) (s : MachineState) → IsWithin 0x2EEE pending → IsState s → IsState (next pending s)
+NextKeeps = (pending : ℕ) (s : MachineState) → IsWithin INTERRUPTS pending → IsState s → IsState (next pending s)
 
 abbrev pub StepsKeep : Type 0
 StepsKeep = (irqs : List Irq) (before n : ℕ) (s : MachineState) →

@@ -3,7 +3,7 @@ use Rattle.std.proofs.Common.{◌∙◌}
 use Rattle.std.specs.Prelude.{◌≡◌, refl, ℕ, List, fold, replicate, Option, None}
 use Rattle.ctr_csrs.specs.declared.depth.Depth.TheVariants.{D16}
 use Rattle.ctr_buffer.specs.History.{after}
-use Rattle.indirect_regs.specs.Access.{Accessed}
+use Rattle.indirect_regs.specs.Access.{AccessResult}
 use Rattle.indirect_regs.specs.Unit.{UnitState, fresh_unit}
 use Rattle.rv_hart.specs.Processor.{CoreState, fresh_core}
 use Rattle.rv_hart.specs.Step.{MachineState, Step}
@@ -33,7 +33,7 @@ abbrev pub ran : HartState → Step → HartState
 ran h step = record h { core = step.core; unit = record step.unit { stack = fold after h.unit.stack step.events } }
 
 -- a hart after an access to a register, with rd and the program counter as before
-abbrev pub reached : HartState → Accessed → HartState
+abbrev pub reached : HartState → AccessResult → HartState
 reached h a = record h { core = record h.core { csrs = a.registers }; unit = a.unit }
 
 -- what a monitor's port leaves as it is: the core, the steps and the resident

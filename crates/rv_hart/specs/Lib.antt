@@ -1,5 +1,5 @@
 -- What a reader must believe: Memory, Processor, Effect, Transfers, Step, Hart, Task and Lone, and
--- the statements of StepLaws, Ending, Executed, Facts and Unreturned.
+-- the statements of StepLaws, Ending, Executed, Frozen, Facts and Unreturned.
 pub mod Memory
 pub mod Processor
 pub mod Effect
@@ -11,5 +11,6 @@ pub mod Lone
 pub mod StepLaws
 pub mod Ending
 pub mod Executed
+pub mod Frozen
 pub mod Facts
 pub mod Unreturned

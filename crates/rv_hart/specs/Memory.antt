@@ -2,7 +2,7 @@
 -- "Load and Store Instructions").
 use Rattle.std.specs.Prelude.{ℕ, ◌+◌, ◌-◌, ◌*◌, Bool, cond, nat_le, ◌&&◌, List, ◌++◌, length, replicate, take, drop, Option, Some, None}
 use Rattle.byteorder.specs.Endian.{little_number, little_bytes}
-use Rattle.ctr_bits.specs.Sext.{extended}
+use Rattle.ctr_bits.specs.Sext.{sign_extension}
 use Rattle.rv_decode.specs.declared.operations.Width.{Width}
 use Rattle.rv_decode.specs.declared.operations.Width.TheVariants.{B, H, W, D}
 
@@ -32,7 +32,7 @@ number_at width bytes at = little_number (bytes_of width) (drop at bytes)
 
 -- the same as a register takes it, with its sign where the load is signed
 abbrev pub loaded : Width → Bool → List ℕ → ℕ → ℕ
-loaded width signed bytes at = cond signed (extended (8 * bytes_of width) (number_at width bytes at)) (number_at width bytes at)
+loaded width signed bytes at = cond signed (sign_extension (8 * bytes_of width) (number_at width bytes at)) (number_at width bytes at)
 
 -- the memory after the lowest bytes of a value were written at a place, the lowest first
 abbrev pub stored : Width → ℕ → List ℕ → ℕ → List ℕ

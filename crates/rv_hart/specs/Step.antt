@@ -14,12 +14,12 @@ use Rattle.guest_modes.specs.declared.returning.Ret.{Ret}
 use Rattle.guest_modes.specs.declared.targets.Trap.{Trap}
 use Rattle.guest_modes.specs.declared.targets.Trap.TheVariants.{Exception, Interrupt}
 use Rattle.guest_modes.specs.Traps.{target_of}
-use Rattle.guest_modes.specs.Entry.{entered, handler_of}
-use Rattle.guest_modes.specs.Returns.{left, mode_after, pc_after}
-use Rattle.guest_modes.specs.Interrupts.{picked}
+use Rattle.guest_modes.specs.Entry.{after_trap, handler_of}
+use Rattle.guest_modes.specs.Returns.{after_return, mode_after, pc_after}
+use Rattle.guest_modes.specs.Interrupts.{next_interrupt}
 use Rattle.indirect_regs.specs.declared.accessing.CsrUse.{CsrUse}
 use Rattle.indirect_regs.specs.declared.accessing.CsrUse.TheVariants as uses
-use Rattle.indirect_regs.specs.Access.{Accessed, accessed}
+use Rattle.indirect_regs.specs.Access.{AccessResult, access_of}
 use Rattle.indirect_regs.specs.Unit.{UnitState}
 use Rattle.rv_decode.specs.declared.instruction.Instr.{Instr}
 use Rattle.rv_decode.specs.declared.instruction.Instr.TheVariants.{Csr, CtrClr}
@@ -28,7 +28,7 @@ use Rattle.rv_decode.specs.declared.instruction.CsrArg.TheVariants.{Reg, Imm}
 use Rattle.rv_decode.specs.declared.operations.CsrOp.{CsrOp}
 use Rattle.rv_decode.specs.declared.operations.CsrOp.TheVariants.{Write, Set, Clear}
 use Rattle.rv_decode.specs.declared.operations.Width.TheVariants.{W}
-use Rattle.rv_decode.specs.Rows.{decoded}
+use Rattle.rv_decode.specs.Rows.{instruction_of}
 use Rattle.xfer_class.specs.declared.types.XferType.{XferType}
 use Rattle.xfer_class.specs.declared.types.XferType.TheVariants as types
 use Rattle.rv_hart.specs.declared.outcome.Jump.{Jump}
@@ -91,7 +91,7 @@ trapped trap value c u =
       x = c.x;
       pc = handler_of c.csrs c.mode trap;
       mode = target_of c.csrs c.mode trap;
-      csrs = entered c.csrs c.mode trap c.pc value;
+      csrs = after_trap c.csrs c.mode trap c.pc value;
     })
     u
 
@@ -111,7 +111,7 @@ return_transfer ret c = record {
 abbrev pub returned : Ret → CoreState → UnitState → Step
 returned ret c u =
     carried (return_transfer ret c)
-    (record { x = c.x; pc = pc_after c.csrs ret; mode = mode_after c.csrs ret; csrs = left c.csrs ret })
+    (record { x = c.x; pc = pc_after c.csrs ret; mode = mode_after c.csrs ret; csrs = after_return c.csrs ret })
     u
 
 -- a jump or a branch, which stays in its mode
@@ -162,7 +162,7 @@ refused Illegal word c u = trapped (Exception ILLEGAL_INSTRUCTION) word c u
 refused Virtual word c u = trapped (Exception VIRTUAL_INSTRUCTION) word c u
 
 -- an access to a register: rd takes the old value
-abbrev pub answered : Result ℕ CsrFault → Accessed → ℕ → ℕ → CoreState → UnitState → Step
+abbrev pub answered : Result ℕ CsrFault → AccessResult → ℕ → ℕ → CoreState → UnitState → Step
 answered (Ok old) a rd word c u = record {
   core = at_next (put (record c { csrs = a.registers }) rd old);
   unit = a.unit;
@@ -170,7 +170,7 @@ answered (Ok old) a rd word c u = record {
 }
 answered (Err fault) a rd word c u = refused fault word c u
 
-abbrev pub by_access : Accessed → ℕ → ℕ → CoreState → UnitState → Step
+abbrev pub by_access : AccessResult → ℕ → ℕ → CoreState → UnitState → Step
 by_access a rd word c u = answered a.answer a rd word c u
 
 -- SCTRCLR is illegal in U, and a virtual instruction in VU
@@ -184,7 +184,7 @@ by_effect e u = concluded e.outcome e.core u
 
 -- an instruction, with its word, is executed
 abbrev pub executed : Instr → ℕ → CoreState → UnitState → List ℕ → Step
-executed (Csr op rd arg csr) word c u bytes = by_access (accessed u c.csrs c.mode csr (use_of op arg c)) rd word c u
+executed (Csr op rd arg csr) word c u bytes = by_access (access_of u c.csrs c.mode csr (use_of op arg c)) rd word c u
 executed CtrClr word c u bytes = clears c.mode word c u
 executed i word c u bytes = by_effect (effect i word c bytes) u
 
@@ -193,7 +193,7 @@ pub record Made : Type 0 where
   pub step : Step
   pub mem : List ℕ
 
--- the word is decoded; an unknown word is an illegal instruction
+-- the word is instruction_of; an unknown word is an illegal instruction
 abbrev pub by_instruction : Option Instr → ℕ → MachineState → Made
 by_instruction None word s = record { step = trapped (Exception ILLEGAL_INSTRUCTION) word s.core s.unit; mem = s.mem }
 by_instruction (Some i) word s = record {
@@ -212,7 +212,7 @@ fetched s = fetched_at (place_of (length s.mem) s.core.pc 4) s.mem
 -- there is no word: an instruction access fault
 abbrev pub by_word : Option ℕ → MachineState → Made
 by_word None s = record { step = trapped (Exception INSTRUCTION_ACCESS_FAULT) s.core.pc s.core s.unit; mem = s.mem }
-by_word (Some word) s = by_instruction (decoded word) word s
+by_word (Some word) s = by_instruction (instruction_of word) word s
 
 -- an interrupt that is taken is pending no longer, and nothing is executed
 abbrev pub lowered : ℕ → CoreState → CoreState
@@ -227,7 +227,7 @@ abbrev pub raised : ℕ → MachineState → MachineState
 raised pending s = record s { core = record s.core { csrs = record s.core.csrs { mip = bit_or s.core.csrs.mip pending } } }
 
 abbrev pub made : MachineState → Made
-made s = by_interrupt (picked s.core.csrs s.core.mode) s
+made s = by_interrupt (next_interrupt s.core.csrs s.core.mode) s
 
 -- the step of a hart where these interrupts become pending: bit i is interrupt i
 abbrev pub step_of : ℕ → MachineState → Made

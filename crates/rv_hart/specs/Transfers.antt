@@ -5,7 +5,7 @@ use Rattle.ctr_rules.specs.declared.transfer.Transfer.{Transfer}
 use Rattle.ctr_rules.specs.declared.transfer.Record.{Record}
 use Rattle.ctr_rules.specs.declared.transfer.Act.{Act}
 use Rattle.ctr_rules.specs.declared.transfer.Act.TheVariants as acts
-use Rattle.ctr_rules.specs.Admitted.{admitted}
+use Rattle.ctr_rules.specs.Admitted.{act_under}
 use Rattle.ctr_buffer.specs.declared.event.Event.{Event}
 use Rattle.ctr_buffer.specs.declared.event.Event.TheVariants.{Push, Swap, Pop}
 use Rattle.ctr_buffer.specs.Entry.{Entry, recorded_entry}
@@ -31,7 +31,7 @@ frozen_by _ frozen = frozen
 
 -- the act of a transfer, under the controls of a unit
 abbrev pub act_in : Transfer → UnitState → Act
-act_in t u = admitted t u.m u.vs u.frozen
+act_in t u = act_under t u.m u.vs u.frozen
 
 -- the unit after a transfer
 abbrev pub transferred : Transfer → UnitState → UnitState

@@ -9,7 +9,7 @@ use crate::memory::TaskMem;
 use crate::processor::Core;
 use ctr_buffer::CtrStore;
 use ctr_csrs::Depth;
-use guest_modes::Priv;
+use guest_modes::{INTERRUPTS, Priv};
 use indirect_regs::{CtrPort, CtrUnit, PortReg};
 use std::marker::Model;
 
@@ -68,11 +68,11 @@ impl<B: CtrStore> Hart<B> {
 
     /// One step of the hart: the interrupts of `pending` become pending, bit i being interrupt i, and then it takes an
     /// interrupt or executes one instruction (RISC-V Unprivileged ISA; Privileged Architecture, "Machine Interrupt
-    /// Registers" and "Machine Trap Delegation Registers"; Control Transfer Records 1.0). `pending` has bits of 0x2EEE
+    /// Registers" and "Machine Trap Delegation Registers"; Control Transfer Records 1.0). `pending` has bits of `INTERRUPTS`
     /// alone, the interrupts 1, 2, 3, 5, 6, 7, 9, 10, 11 and 13, and `steps` is below 2^63.
     #[inline(always)]
     pub fn step(&mut self, mem: &mut TaskMem, pending: u64)
-        requires pending { IsWithin 0x2EEE pending }
+        requires pending { IsWithin INTERRUPTS pending }
         requires steps { self.old.steps < 2 ^ 63 }
         ensures state { machine_of self.new mem.new ≡ next pending (machine_of self.old mem.old) }
         ensures rest { self.new ≡ record self.old { core = self.new.core; unit = self.new.unit; steps = self.old.steps + 1 } }
@@ -156,7 +156,7 @@ impl<B: CtrStore> CtrPort for Hart<B> {
 // Makes interrupts pending, which at most steps are none.
 #[inline(always)]
 fn raise(csrs: &mut Priv, pending: u64)
-    requires { IsWithin 0x2EEE pending }
+    requires { IsWithin INTERRUPTS pending }
     ensures { csrs.new ≡ record csrs.old { mip = bit_or csrs.old.mip pending } }
 {
     if pending != 0 {

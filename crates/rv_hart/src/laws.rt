@@ -1,10 +1,14 @@
+//! Laws of a step, of the lone run of a task, and of the facts that states keep.
+
 ghost use Rattle.std.specs.Prelude.{◌≡◌, ℕ, ◌^◌, ◌<◌, ◌%◌, List, length, slice_index};
 ghost use Rattle.std.specs.List.{All};
 ghost use Rattle.rv_hart.specs.Step.{next, events_of};
 ghost use Rattle.rv_hart.specs.Facts.{IsCore, NextKeeps, StepsKeep, LoneRunKeeps, HistoryKeeps, HistoryReplays};
-ghost use Rattle.rv_hart.specs.Executed.{TransfersRecordThemselves};
-ghost use Rattle.rv_hart.specs.Ending.{EndingsByMode, MonitorClearsAsSctrclr, TrapsAndReturnsWriteNothing};
-ghost use Rattle.rv_hart.specs.StepLaws.{ExceptionsWriteNothing, MemoryKeepsItsSize, NoStepChangesX0, AtMostOneEvent};
+ghost use Rattle.rv_hart.specs.Executed.{TransfersRecordThemselves, TrapsRecordThemselves, StepsGoToTheirDestinations};
+ghost use Rattle.rv_hart.specs.Ending.{EndingsByMode, EndingsByAddress, SctrclrClearsEntries, TrapsAndReturnsWriteNothing};
+ghost use Rattle.rv_hart.specs.Frozen.{FrozenChanges, FreezesSetFrozen};
+ghost use Rattle.rv_hart.specs.StepLaws.{ExceptionsWriteNothing, MemoryKeepsItsSize, NoStepChangesX0, AtMostOneEvent, AccessesWriteByNumber};
+ghost use Rattle.guest_modes.specs.declared.causes.TheConstants.{INTERRUPTS};
 ghost use Rattle.guest_modes.specs.Words.{IsWithin};
 ghost use Rattle.indirect_regs.specs.Unit.{IsUnit};
 ghost use Rattle.rv_hart.specs.Unreturned.{RecordsAreVisibleInRuns, ValidAreVisibleInRuns};
@@ -27,14 +31,34 @@ pub fn step_laws()
     // How ECALL, EBREAK, MRET, SRET, SCTRCLR, WFI and the fences end, mode by mode.
     ensures endings { EndingsByMode }
 
-    // A monitor's clear is SCTRCLR.
-    ensures clear { MonitorClearsAsSctrclr }
+    // How loads, stores, jumps and branches end by their address or target, in every mode.
+    ensures addresses { EndingsByAddress }
 
-    // What is recorded of a jump, a branch or a return has its own address, the next one, and the
-    // type of the instruction; of a branch type and misprediction are those of its outcome, which
-    // is its condition on the registers before the step.
+    // CSR instructions write by the operation and the number of rs1 or the immediate alone.
+    ensures accesses { AccessesWriteByNumber }
+
+    // SCTRCLR makes every entry zero and leaves the rest of the unit, and so does a monitor's clear.
+    ensures clear { SctrclrClearsEntries }
+
+    // What is recorded of a jump, a branch or a return has its own address or 0, the next one or 0,
+    // and the type of the instruction; of a branch type and misprediction are those of its outcome,
+    // which is its condition on the registers before the step.
     ensures records { TransfersRecordThemselves }
-{}
+
+    // What is recorded of a trap has the address at which it was taken or 0, that of its handler or
+    // 0, and type 1 for an exception, 2 for an interrupt.
+    ensures trap_records { TrapsRecordThemselves }
+
+    // A step that takes no trap goes to the destination of its instruction.
+    ensures destinations { StepsGoToTheirDestinations }
+
+    // FROZEN changes by a breakpoint or a counter overflow into a mode whose own control register has
+    // the freeze bit, which set it, or by a write of sctrstatus.
+    ensures frozen { FrozenChanges }
+    ensures freezes { FreezesSetFrozen }
+{
+    indirect_regs::register_laws();
+}
 
 /// Laws of the lone run of a task, of every task and number of steps: a proof and no work.
 pub fn lone_run_laws()
@@ -42,7 +66,7 @@ pub fn lone_run_laws()
     ensures first { (t : Task) → IsUnit (first_state t).unit }
 
     // What becomes pending at a step of the run is what a step of a hart takes.
-    ensures pending { (irqs : List Irq) (n : ℕ) → AreInterrupts irqs → IsWithin 0x2EEE (causes irqs n) }
+    ensures pending { (irqs : List Irq) (n : ℕ) → AreInterrupts irqs → IsWithin INTERRUPTS (causes irqs n) }
 
     // The record buffer of a lone run is what its history leaves: the depth, the list, and the pointer, which is counted.
     ensures follows { (t : Task) (n : ℕ) → FollowsHistory (lone_run t n) }

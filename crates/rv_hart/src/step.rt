@@ -2,10 +2,10 @@
 ghost use Rattle.std.specs.Prelude.{◌≡◌, ◌<◌, ◌%◌, IsTrue, OnErr, cond};
 ghost use Rattle.std.specs.Option.{IfSome};
 ghost use Rattle.guest_modes.specs.Traps.{is_cause, is_trap_between, target_of, interrupt_taker};
-ghost use Rattle.indirect_regs.specs.Access.{accessed};
+ghost use Rattle.indirect_regs.specs.Access.{access_of};
 ghost use Rattle.indirect_regs.specs.Laws.{EventsMakeTheBuffer};
 ghost use Rattle.rv_decode.specs.Numbers.{OperandFits};
-ghost use Rattle.rv_decode.specs.Rows.{NumbersFit, decoded};
+ghost use Rattle.rv_decode.specs.Rows.{NumbersFit, instruction_of};
 ghost use Rattle.rv_hart.specs.Effect.{effect, IsJump, IsSound};
 ghost use Rattle.rv_hart.specs.Hart.{machine_of, ran, reached};
 ghost use Rattle.rv_hart.specs.Processor.{put, at_next};
@@ -151,8 +151,8 @@ impl<B: CtrStore> Hart<B> {
 
     // Reads and writes a register by its number.
     fn use_register(&mut self, op: CsrUse, csr: u16) -> Result<u64, CsrFault>
-        ensures answer { result ≡ (accessed self.old.unit self.old.core.csrs self.old.core.mode csr op).answer }
-        ensures hart { self.new ≡ reached self.old (accessed self.old.unit self.old.core.csrs self.old.core.mode csr op) }
+        ensures answer { result ≡ (access_of self.old.unit self.old.core.csrs self.old.core.mode csr op).answer }
+        ensures hart { self.new ≡ reached self.old (access_of self.old.unit self.old.core.csrs self.old.core.mode csr op) }
         ensures refused { OnErr result (self.new ≡ self.old) }
         ensures events { EventsMakeTheBuffer }
     {
@@ -184,7 +184,7 @@ impl<B: CtrStore> Hart<B> {
     #[inline(never)]
     fn access(&mut self, op: CsrUse, rd: u8, csr: u16, word: u32)
         requires { rd < 32 }
-        ensures { self.new ≡ ran self.old (by_access (accessed self.old.unit self.old.core.csrs self.old.core.mode csr op) rd word self.old.core self.old.unit) }
+        ensures { self.new ≡ ran self.old (by_access (access_of self.old.unit self.old.core.csrs self.old.core.mode csr op) rd word self.old.core self.old.unit) }
     {
         match self.use_register(op, csr) {
             Ok(old) => self.give(rd, old),
@@ -328,8 +328,8 @@ impl<B: CtrStore> Hart<B> {
 
     // Decodes a word and executes it.
     fn run_word(&mut self, mem: &mut TaskMem, word: u32)
-        ensures hart { self.new ≡ ran self.old (by_instruction (decoded word) word (machine_of self.old mem.old)).step }
-        ensures mem { mem.new ≡ (by_instruction (decoded word) word (machine_of self.old mem.old)).mem }
+        ensures hart { self.new ≡ ran self.old (by_instruction (instruction_of word) word (machine_of self.old mem.old)).step }
+        ensures mem { mem.new ≡ (by_instruction (instruction_of word) word (machine_of self.old mem.old)).mem }
     {
         match decode(word) {
             Some(instr) => self.execute(mem, instr, word),

@@ -6,6 +6,21 @@ use super::{ONES, delegating};
 use crate::{CsrFault, Priv, gate, is_register, privilege_laws, read_csr, write_csr};
 use ctr_csrs::Mode;
 
+// sstatus, sie and sip; hie, hip and hvip; vsie and vsip.
+const VIEWS: [u16; 8] = [0x100, 0x104, 0x144, 0x604, 0x644, 0x645, 0x204, 0x244];
+
+// The field UXL of sstatus, which reads 2.
+const UXL: u64 = 0x2_0000_0000;
+
+// The registers of M, S, the hypervisor and VS, then those of control transfer records.
+const NUMBERS: [u16; 64] = [
+    0x300, 0x301, 0x302, 0x303, 0x304, 0x305, 0x340, 0x341, 0x342, 0x343, 0x344, 0x34A, 0x34B, 0xF11,
+    0xF12, 0xF13, 0xF14, 0xF15, 0x100, 0x104, 0x105, 0x140, 0x141, 0x142, 0x143, 0x144, 0x180, 0x600,
+    0x602, 0x603, 0x604, 0x643, 0x644, 0x645, 0x64A, 0x680, 0x200, 0x204, 0x205, 0x240, 0x241, 0x242,
+    0x243, 0x244, 0x280, 0x34E, 0x14E, 0x24E, 0x14F, 0x15F, 0x150, 0x151, 0x152, 0x153, 0x155, 0x156,
+    0x157, 0x250, 0x251, 0x252, 0x253, 0x255, 0x256, 0x257,
+];
+
 #[test]
 fn registers_keep_the_bits_of_their_table(rt: HostRuntime) {
     privilege_laws();
@@ -143,8 +158,82 @@ fn the_gate_goes_by_mode_and_number(rt: HostRuntime) {
         (Mode::Vu, 0x300, false, Err(CsrFault::Illegal)),
         (Mode::Vu, 0x104, false, Err(CsrFault::Virtual)),
         (Mode::U, 0x200, false, Err(CsrFault::Illegal)),
+        (Mode::Vu, 0x600, false, Err(CsrFault::Virtual)), // there for the hypervisor
+        (Mode::Vu, 0x24E, false, Err(CsrFault::Virtual)),
+        (Mode::Vs, 0x1FF, false, Err(CsrFault::Illegal)), // there is no such register for anyone
+        (Mode::Vu, 0x1FF, false, Err(CsrFault::Illegal)),
+        (Mode::Vu, 0x154, false, Err(CsrFault::Illegal)), // there is none between sireg3 and sireg4
+        (Mode::Vs, 0x154, false, Err(CsrFault::Illegal)),
+        (Mode::Vs, 0xF14, true, Err(CsrFault::Illegal)),
+        (Mode::Vu, 0xF14, false, Err(CsrFault::Illegal)),
     ] {
         assert_eq!(rt; gate(mode, csr, write), want, "{mode:?}, register {csr}");
+    }
+}
+
+// Each view after its bits came into the register behind it by that register's own number, by an
+// interrupt, or not at all: mstatus by 300, mie by 304, mip by interrupts that became pending.
+#[test]
+fn views_show_their_part_of_the_register_behind(rt: HostRuntime) {
+    for (mideleg, hideleg, seen) in [
+        // sstatus, sie, sip, hie, hip, hvip, vsie and vsip. sie and sip show what M delegates.
+        (0, 0, [0x122, 0, 0, 0x444, 0x444, 0x444, 0, 0]),
+        (0x20, 0, [0x122, 0x20, 0x20, 0x444, 0x444, 0x444, 0, 0]),
+        (
+            0x2222,
+            0,
+            [0x122, 0x2222, 0x2222, 0x444, 0x444, 0x444, 0, 0],
+        ),
+        // vsie and vsip show what the hypervisor delegates, and of a counter overflow what both do.
+        (
+            0,
+            0x2444,
+            [0x122, 0, 0, 0x444, 0x444, 0x444, 0x222, 0x222],
+        ),
+        (
+            0x20,
+            0x40,
+            [0x122, 0x20, 0x20, 0x444, 0x444, 0x444, 0x20, 0x20],
+        ),
+        (
+            0x2222,
+            0x2444,
+            [0x122, 0x2222, 0x2222, 0x444, 0x444, 0x444, 0x2222, 0x2222],
+        ),
+    ] {
+        let mut p = delegating(0, mideleg, 0, hideleg);
+        for csr in VIEWS {
+            assert!(rt; is_register(csr), "{csr} is a register");
+            assert_eq!(rt; read_csr(&p, csr) & !UXL, 0, "view {csr:x}, all clear");
+        }
+        write_csr(&mut p, 0x300, ONES);
+        write_csr(&mut p, 0x304, ONES);
+        p.raise(0x2EEE);
+        for (csr, want) in VIEWS.into_iter().zip(seen) {
+            assert!(rt; is_register(csr), "{csr} is a register");
+            assert_eq!(rt;
+                read_csr(&p, csr) & !UXL,
+                want,
+                "view {csr:x}, mideleg {mideleg:x}, hideleg {hideleg:x}"
+            );
+        }
+        assert_eq!(rt; read_csr(&p, 0x100), UXL | 0x122, "sstatus");
+        assert_eq!(rt; read_csr(&p, 0x344), 0x2EEE, "mip");
+    }
+}
+
+// Of all numbers M reaches those of registers and no other: those of the table above, and those of
+// control transfer records.
+#[test]
+fn no_number_but_a_registers_passes_the_gate(rt: HostRuntime) {
+    for csr in 0..4096 {
+        let there = NUMBERS.contains(&csr);
+        let want = if there {
+            Ok(csr)
+        } else {
+            Err(CsrFault::Illegal)
+        };
+        assert_eq!(rt; gate(Mode::M, csr, false), want, "register {csr:x}");
     }
 }
 

@@ -164,6 +164,41 @@ fn interrupts_have_handlers_of_their_own_in_vectored_mode(rt: HostRuntime) {
     }
 }
 
+// The interrupts of VS by who takes them: S finds them by their own numbers, VS by those of S.
+#[test]
+fn interrupts_of_vs_have_other_numbers_in_vs_alone(rt: HostRuntime) {
+    for (cause, in_s, s_handler, in_vs, vs_handler) in [
+        (2, 0x8000_0000_0000_0002, 0x2008, 0x8000_0000_0000_0001, 0x3004),
+        (6, 0x8000_0000_0000_0006, 0x2018, 0x8000_0000_0000_0005, 0x3014),
+        (10, 0x8000_0000_0000_000A, 0x2028, 0x8000_0000_0000_0009, 0x3024),
+    ] {
+        for (hideleg, mode, handler, register, word) in [
+            (0, Mode::S, s_handler, 0x142, in_s),
+            (0x2444, Mode::Vs, vs_handler, 0x242, in_vs),
+        ] {
+            let mut p = delegating(0, 0, 0, hideleg);
+            write_csr(&mut p, 0x304, ONES);
+            write_csr(&mut p, 0x105, 0x2001);
+            write_csr(&mut p, 0x205, 0x3001);
+            assert!(rt; is_interrupt(cause), "{cause} is an interrupt");
+            p.raise(0x444);
+            for other in [2, 6, 10] {
+                if other != cause && is_interrupt(other) {
+                    p.lower(other);
+                }
+            }
+            assert_eq!(rt; pick_interrupt(&p, Mode::Vu), Some(cause), "{cause} is next");
+            assert_eq!(rt;
+                enter_trap(&mut p, Mode::Vu, Trap::Interrupt(cause), 0x8000_0000, 0),
+                (mode, handler),
+                "interrupt {cause} with hideleg {hideleg:x}"
+            );
+            assert!(rt; is_register(register), "{register} is a register");
+            assert_eq!(rt; read_csr(&p, register), word, "its cause");
+        }
+    }
+}
+
 #[test]
 fn returns_go_back_by_the_kept_mode(rt: HostRuntime) {
     // The return; mstatus and hstatus, or vsstatus alone, before it; the mode; the same registers after it.

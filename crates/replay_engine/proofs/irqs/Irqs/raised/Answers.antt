@@ -8,6 +8,7 @@ use Rattle.replay_engine.proofs.IrqLaws.{from_place, place_within, raised_from, 
 use Rattle.replay_engine.proofs.IrqLaws.{not_due, none_raised, none_placed, due_raised, due_placed}
 use Rattle.replay_engine.proofs.IrqLaws.{due_from, within_both}
 use Rattle.replay_engine.proofs.irqs.Irqs.raised.Goals as goal
+use Rattle.guest_modes.specs.declared.causes.TheConstants.{INTERRUPTS}
 
 pub loop-self-init : goal.loop-self-init
 loop-self-init c =
@@ -38,7 +39,7 @@ loop-self-preserved c =
       bits = rw (c.bit-bits.ensures.bit, got) (sym (due_raised step at c.loop-self.bits irqs due)
           ∙ invariant.bits);
       mask =
-          within_both 0x2EEE c.loop-self.bits c.bit-bits.result invariant.mask
+          within_both INTERRUPTS c.loop-self.bits c.bit-bits.result invariant.mask
           c.bit-bits.ensures.within;
       from = due_from step at irqs due invariant.from;
       counted = invariant.counted ∙ due_placed step at irqs due;
