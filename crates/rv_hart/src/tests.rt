@@ -39,7 +39,7 @@ const MTVAL: u16 = 0x343;
 
 const MIP: u16 = 0x344;
 
-const CASES: [Case; 20] = [
+const CASES: [Case; 21] = [
     // auipc x5, 0, then lw, lwu, lh, lhu, lb, lbu and ld of the bytes 83 82 81 80 01 00 00 00 at 32(x5)
     Case {
         name: "loads",
@@ -285,6 +285,38 @@ const CASES: [Case; 20] = [
         registers: &[(6, 0)],
         csrs: &[(MCAUSE, 0)],
     },
+    // addi x5, x0, 20; addi x6, x0, 3; of x5 and x6 sub to x7, sll to x8, slt to x9, div to x11 and rem to x12; slt x10, x6, x5;
+    // auipc x14, 0x12345 at 0x80000020; lui x15, 0x80000
+    Case {
+        name: "operations of two registers that aren't equal, and upper immediates",
+        words: &[
+            0x0140_0293,
+            0x0030_0313,
+            0x4062_83B3,
+            0x0062_9433,
+            0x0062_A4B3,
+            0x0053_2533,
+            0x0262_C5B3,
+            0x0262_E633,
+            0x1234_5717,
+            0x8000_07B7,
+        ],
+        mem: 64,
+        pending: 0,
+        steps: 10,
+        pc: 0x8000_0028,
+        registers: &[
+            (7, 17),
+            (8, 160),
+            (9, 0),
+            (10, 1),
+            (11, 6),
+            (12, 2),
+            (14, 0x9234_5020),
+            (15, 0xFFFF_FFFF_8000_0000),
+        ],
+        csrs: &[],
+    },
     // addi x5, x0, 8; csrrw x0, mie, x5; csrrsi x0, mstatus, 8; addi x6, x6, 1, which isn't executed
     Case {
         name: "an interrupt that is enabled three steps after it was raised",
@@ -387,7 +419,7 @@ struct Recorded {
     entry: (u64, u64, u64),
 }
 
-const RECORDED: [Recorded; 5] = [
+const RECORDED: [Recorded; 9] = [
     // jal x0, 4 three times
     Recorded {
         name: "three jumps in M",
@@ -429,6 +461,42 @@ const RECORDED: [Recorded; 5] = [
         steps: 6,
         status: 0x8000_0001,
         entry: (0x8000_000D, 0x8000_0010, 11),
+    },
+    // jal x0, 4; lui x5, 0x80000; csrrs x0, sctrstatus, x5; sctrclr: the entries go, the pointer and FROZEN stay
+    Recorded {
+        name: "a clear while the records are frozen",
+        words: &[0x0040_006F, 0x8000_02B7, 0x14F2_A073, 0x1040_0073],
+        control: 0x4,
+        steps: 4,
+        status: 0x8000_0001,
+        entry: (0, 0, 0),
+    },
+    // csrrw x5, mctrctl, x0 writes 0; jal x0, 0
+    Recorded {
+        name: "a jump after a write of x0 to mctrctl",
+        words: &[0x34E0_12F3, 0x0000_006F],
+        control: 0x4,
+        steps: 2,
+        status: 0,
+        entry: (0, 0, 0),
+    },
+    // csrrs x5, mctrctl, x0 and csrrci x5, mctrctl, 0 write nothing; jal x0, 0
+    Recorded {
+        name: "a jump after reads of mctrctl",
+        words: &[0x34E0_22F3, 0x34E0_72F3, 0x0000_006F],
+        control: 0x4,
+        steps: 3,
+        status: 1,
+        entry: (0x8000_0009, 0x8000_0008, 11),
+    },
+    // csrrci x0, mctrctl, 4 clears M; jal x0, 0
+    Recorded {
+        name: "a jump after M of mctrctl was cleared",
+        words: &[0x34E2_7073, 0x0000_006F],
+        control: 0x4,
+        steps: 2,
+        status: 0,
+        entry: (0, 0, 0),
     },
     // jal x1, 4; sctrclr; jal x0, 0: the pointer stays
     Recorded {

@@ -34,7 +34,7 @@ struct Ending {
     ends: [(u64, u64); 5],
 }
 
-const ENDINGS: [Ending; 18] = [
+const ENDINGS: [Ending; 46] = [
     // ecall
     Ending {
         word: 0x0000_0073,
@@ -142,6 +142,173 @@ const ENDINGS: [Ending; 18] = [
         word: 0x0050_2123,
         x5: X5,
         ends: [(6, 2), (6, 2), (6, 2), (6, 2), (6, 2)],
+    },
+    // csrrs x5, mvendorid, x6 and csrrc x5, mvendorid, x6 write, though x6 holds 0
+    Ending {
+        word: 0xF113_22F3,
+        x5: X5,
+        ends: [(2, WORD), (2, WORD), (2, WORD), (2, WORD), (2, WORD)],
+    },
+    Ending {
+        word: 0xF113_32F3,
+        x5: X5,
+        ends: [(2, WORD), (2, WORD), (2, WORD), (2, WORD), (2, WORD)],
+    },
+    // csrrwi x5, mvendorid, 0 writes
+    Ending {
+        word: 0xF110_52F3,
+        x5: X5,
+        ends: [(2, WORD), (2, WORD), (2, WORD), (2, WORD), (2, WORD)],
+    },
+    // csrrs x5, mstatus, x0; UXL and SXL read 2
+    Ending {
+        word: 0x3000_22F3,
+        x5: 0xA_0000_0000,
+        ends: [ON, (2, WORD), (2, WORD), (2, WORD), (2, WORD)],
+    },
+    // csrrs x5, sstatus, x0: in VS it is vsstatus
+    Ending {
+        word: 0x1000_22F3,
+        x5: 0x2_0000_0000,
+        ends: [ON, ON, (2, WORD), ON, (22, WORD)],
+    },
+    // csrrs x5, hstatus, x0
+    Ending {
+        word: 0x6000_22F3,
+        x5: 0x2_0000_0000,
+        ends: [ON, ON, (2, WORD), (22, WORD), (22, WORD)],
+    },
+    // csrrs x5, vsstatus, x0
+    Ending {
+        word: 0x2000_22F3,
+        x5: 0x2_0000_0000,
+        ends: [ON, ON, (2, WORD), (22, WORD), (22, WORD)],
+    },
+    // csrrs x5, sctrctl, x0: mctrctl without M, and in VS vsctrctl
+    Ending {
+        word: 0x14E0_22F3,
+        x5: 3,
+        ends: [ON, ON, (2, WORD), ON, (22, WORD)],
+    },
+    // csrrs x5, vsctrctl, x0
+    Ending {
+        word: 0x24E0_22F3,
+        x5: 3,
+        ends: [ON, ON, (2, WORD), (22, WORD), (22, WORD)],
+    },
+    // csrrs x5, sctrstatus, x0
+    Ending {
+        word: 0x14F0_22F3,
+        x5: 0,
+        ends: [ON, ON, (2, WORD), ON, (22, WORD)],
+    },
+    // csrrs x5, 0x154, x0: there is no such register
+    Ending {
+        word: 0x1540_22F3,
+        x5: X5,
+        ends: [(2, WORD), (2, WORD), (2, WORD), (2, WORD), (2, WORD)],
+    },
+    // lb x5, 1(x0)
+    Ending {
+        word: 0x0010_0283,
+        x5: X5,
+        ends: [(5, 1), (5, 1), (5, 1), (5, 1), (5, 1)],
+    },
+    // lbu x5, 1(x0)
+    Ending {
+        word: 0x0010_4283,
+        x5: X5,
+        ends: [(5, 1), (5, 1), (5, 1), (5, 1), (5, 1)],
+    },
+    // lh x5, 1(x0)
+    Ending {
+        word: 0x0010_1283,
+        x5: X5,
+        ends: [(4, 1), (4, 1), (4, 1), (4, 1), (4, 1)],
+    },
+    // lh x5, 2(x0)
+    Ending {
+        word: 0x0020_1283,
+        x5: X5,
+        ends: [(5, 2), (5, 2), (5, 2), (5, 2), (5, 2)],
+    },
+    // lhu x5, 1(x0)
+    Ending {
+        word: 0x0010_5283,
+        x5: X5,
+        ends: [(4, 1), (4, 1), (4, 1), (4, 1), (4, 1)],
+    },
+    // lhu x5, 2(x0)
+    Ending {
+        word: 0x0020_5283,
+        x5: X5,
+        ends: [(5, 2), (5, 2), (5, 2), (5, 2), (5, 2)],
+    },
+    // lw x5, 4(x0)
+    Ending {
+        word: 0x0040_2283,
+        x5: X5,
+        ends: [(5, 4), (5, 4), (5, 4), (5, 4), (5, 4)],
+    },
+    // lwu x5, 2(x0)
+    Ending {
+        word: 0x0020_6283,
+        x5: X5,
+        ends: [(4, 2), (4, 2), (4, 2), (4, 2), (4, 2)],
+    },
+    // lwu x5, 4(x0)
+    Ending {
+        word: 0x0040_6283,
+        x5: X5,
+        ends: [(5, 4), (5, 4), (5, 4), (5, 4), (5, 4)],
+    },
+    // ld x5, 4(x0)
+    Ending {
+        word: 0x0040_3283,
+        x5: X5,
+        ends: [(4, 4), (4, 4), (4, 4), (4, 4), (4, 4)],
+    },
+    // sb x5, 1(x0)
+    Ending {
+        word: 0x0050_00A3,
+        x5: X5,
+        ends: [(7, 1), (7, 1), (7, 1), (7, 1), (7, 1)],
+    },
+    // sh x5, 1(x0)
+    Ending {
+        word: 0x0050_10A3,
+        x5: X5,
+        ends: [(6, 1), (6, 1), (6, 1), (6, 1), (6, 1)],
+    },
+    // sh x5, 2(x0)
+    Ending {
+        word: 0x0050_1123,
+        x5: X5,
+        ends: [(7, 2), (7, 2), (7, 2), (7, 2), (7, 2)],
+    },
+    // sw x5, 4(x0)
+    Ending {
+        word: 0x0050_2223,
+        x5: X5,
+        ends: [(7, 4), (7, 4), (7, 4), (7, 4), (7, 4)],
+    },
+    // sd x5, 4(x0)
+    Ending {
+        word: 0x0050_3223,
+        x5: X5,
+        ends: [(6, 4), (6, 4), (6, 4), (6, 4), (6, 4)],
+    },
+    // beq x0, x0, 2
+    Ending {
+        word: 0x0000_0163,
+        x5: X5,
+        ends: [(0, PC + 2), (0, PC + 2), (0, PC + 2), (0, PC + 2), (0, PC + 2)],
+    },
+    // bne x0, x0, 2, which is not taken
+    Ending {
+        word: 0x0000_1163,
+        x5: X5,
+        ends: [ON, ON, ON, ON, ON],
     },
     // no instruction
     Ending {

@@ -49,7 +49,7 @@ const CALL_FROM_VU: &[u32] = &[
     0x0000_0073,
 ];
 
-const IN_MODES: [InModes; 12] = [
+const IN_MODES: [InModes; 17] = [
     InModes {
         name: "a call from U to M without STE",
         words: CALL_FROM_U,
@@ -188,6 +188,110 @@ const IN_MODES: [InModes; 12] = [
             (0x8000_000D, 0x8000_000C, 11),
             (0x8000_000D, 0x8000_000C, 11),
         ],
+    },
+    // The same where LCOFIFRZ is set, which is for interrupt 13 alone
+    InModes {
+        name: "another interrupt than that of a counter overflow, which doesn't freeze",
+        words: &[0x0080_0293, 0x3042_9073, 0x3002_9073, 0x0000_006F],
+        controls: (0x1004, 0),
+        raised: (5, 8),
+        steps: 6,
+        pc: 0,
+        mode: Mode::M,
+        status: 3,
+        entries: &[
+            (0x8000_000D, 0, 2),
+            (0x8000_000D, 0x8000_000C, 11),
+            (0x8000_000D, 0x8000_000C, 11),
+        ],
+    },
+    // ecall in M where BPFRZ is set, which is for breakpoints alone
+    InModes {
+        name: "another exception than a breakpoint, which doesn't freeze",
+        words: &[0x0000_0073],
+        controls: (0x804, 0),
+        raised: (0, 0),
+        steps: 1,
+        pc: 0,
+        mode: Mode::M,
+        status: 1,
+        entries: &[(0x8000_0001, 0, 1)],
+    },
+    // addi x5, x0, 8; mie of it; csrrwi x0, mtvec, 1; mstatus of it; jal x0, 0, which interrupt 3 stops
+    InModes {
+        name: "a vectored interrupt in M",
+        words: &[
+            0x0080_0293,
+            0x3042_9073,
+            0x3050_D073,
+            0x3002_9073,
+            0x0000_006F,
+        ],
+        controls: (4, 0),
+        raised: (5, 8),
+        steps: 6,
+        pc: 0xC,
+        mode: Mode::M,
+        status: 2,
+        entries: &[(0x8000_0011, 0xC, 2), (0x8000_0011, 0x8000_0010, 11)],
+    },
+    // addi x5, x0, 32; mideleg and mie of it; csrrwi x0, stvec, 1; MPP 1 and SIE of mstatus by addi, slli, addi and csrrw;
+    // auipc x7, 0; addi x7, x7, 16; csrrw x0, mepc, x7; mret to S; jal x0, 0, which interrupt 5 stops
+    InModes {
+        name: "a vectored interrupt in S",
+        words: &[
+            0x0200_0293,
+            0x3032_9073,
+            0x3042_9073,
+            0x1050_D073,
+            0x0010_0313,
+            0x00B3_1313,
+            0x0023_0313,
+            0x3003_1073,
+            0x0000_0397,
+            0x0103_8393,
+            0x3413_9073,
+            0x3020_0073,
+            0x0000_006F,
+        ],
+        controls: (2, 0),
+        raised: (13, 0x20),
+        steps: 14,
+        pc: 0x14,
+        mode: Mode::S,
+        status: 2,
+        entries: &[(0x8000_0031, 0x14, 2), (0x8000_0031, 0x8000_0030, 11)],
+    },
+    // addi x5, x0, 64; hideleg and mie of it; csrrwi x0, vstvec, 1; csrrwi x0, vsstatus, 2; MPV and MPP 1 of mstatus by addi,
+    // slli, addi, slli, or and csrrw; auipc x7, 0; addi x7, x7, 16; csrrw x0, mepc, x7; mret to VS; jal x0, 0, which
+    // interrupt 6 stops: VS finds it as 5, in its vector too
+    InModes {
+        name: "a vectored interrupt in VS",
+        words: &[
+            0x0400_0293,
+            0x6032_9073,
+            0x3042_9073,
+            0x2050_D073,
+            0x2001_5073,
+            0x0010_0313,
+            0x0273_1313,
+            0x0010_0413,
+            0x00B4_1413,
+            0x0083_6333,
+            0x3003_1073,
+            0x0000_0397,
+            0x0103_8393,
+            0x3413_9073,
+            0x3020_0073,
+            0x0000_006F,
+        ],
+        controls: (0, 2),
+        raised: (16, 0x40),
+        steps: 17,
+        pc: 0x14,
+        mode: Mode::Vs,
+        status: 2,
+        entries: &[(0x8000_003D, 0x14, 2), (0x8000_003D, 0x8000_003C, 11)],
     },
     // beq x0, x0, 8
     InModes {
