@@ -1,3 +1,5 @@
+//! Sign extension of a number to 64 bits.
+
 ghost use Rattle.std.specs.Prelude.{◌≡◌, ◌^◌, ◌<◌, ◌≤◌};
 ghost use Rattle.ctr_bits.specs.Sext.{sign_extension};
 

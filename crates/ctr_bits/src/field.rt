@@ -1,3 +1,5 @@
+//! A field of a word, by its lowest bit and its length.
+
 ghost use Rattle.std.specs.Prelude.{◌≡◌, ◌+◌, ◌^◌, ◌<◌, ◌≤◌};
 ghost use Rattle.ctr_bits.specs.Field.{field_of, with_field};
 

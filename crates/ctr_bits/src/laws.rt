@@ -1,3 +1,5 @@
+//! Laws of fields, masks and sign extension.
+
 ghost use Rattle.ctr_bits.specs.FieldLaws.{GetAfterPut, PutLeavesOthers, PutOfGet, LastPutCounts, PutFits};
 ghost use Rattle.ctr_bits.specs.MaskLaws.{NarrowerMaskCounts, MaskTwice, FieldOfMasked, FieldInMask, FieldOffMask};
 ghost use Rattle.ctr_bits.specs.MaskLaws.{PutLeavesMask, PutStaysWithin, MergedOnMask, MergedOffMask, MergedStaysWithin, MergedFits, FieldOfMergedIn, FieldOfMergedOff};

@@ -1,3 +1,5 @@
+//! Fields and signs at their bounds.
+
 use crate::{Field, field_laws, mask_laws, sext, sext_laws};
 
 // The word 0xFE5FF06F is `jal x0, -28`, taken apart by hand from the format J of the Unprivileged ISA.

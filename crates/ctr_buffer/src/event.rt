@@ -1,3 +1,5 @@
+//! What changes a record buffer.
+
 use crate::slot::{Part, Slot};
 use ctr_csrs::Depth;
 

@@ -1,3 +1,5 @@
+//! Laws of the histories of a record buffer.
+
 ghost use Rattle.std.specs.Prelude.{◌≡◌, ◌<◌, List, [], ◌∷◌, ◌++◌, fold};
 ghost use Rattle.ctr_buffer.specs.History.{IsHistory, after, stack_of, deep_of, pointer_of, HasPointer, CanTake, CanTakeAll};
 ghost use Rattle.ctr_buffer.specs.Entry.{valid_entries};
@@ -62,10 +64,14 @@ pub fn replay<B: CtrStore>(depth: Depth, later: &[Event]) -> B
 
 /// Laws of histories, of every list of events: a proof and no work.
 pub fn history_laws()
-    ensures begins { (s : Stack) (history : List Event) → IsHistory history → fold after s history ≡ stack_of history }
-    ensures newest { (history : List Event) (e : Event) → stack_of (history ++ e ∷ []) ≡ after (stack_of history) e }
-    ensures depth_is_the_last { (history : List Event) → (stack_of history).depth ≡ deep_of history }
-    ensures pointer_is_counted { (history : List Event) → (stack_of history).pointer ≡ pointer_of history }
+    ensures begins { (s : Stack) (history : List Event) → IsHistory history → fold after s history
+        ≡ stack_of history }
+    ensures newest { (history : List Event) (e : Event) → stack_of (history ++ e ∷ [])
+        ≡ after (stack_of history) e }
+    ensures depth_is_the_last { (history : List Event) → (stack_of history).depth
+        ≡ deep_of history }
+    ensures pointer_is_counted { (history : List Event) → (stack_of history).pointer
+        ≡ pointer_of history }
 
     // The counted pointer is below the depth, and with the pops it is where it was set and the pushes, modulo the depth.
     ensures pointer_sum { (history : List Event) → HasPointer history (pointer_of history) }

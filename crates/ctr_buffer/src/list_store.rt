@@ -1,3 +1,5 @@
+//! A record store that keeps its entries in their order: a plain list.
+
 ghost use Rattle.std.specs.Prelude.{◌≡◌, ◌<◌, ◌≤◌, ◌-◌, ◌∷◌, length, take};
 ghost use Rattle.ctr_buffer.specs.Stack.{turned_slots};
 

@@ -1,3 +1,5 @@
+//! A record store that moves no entry: a ring.
+
 ghost use Rattle.std.specs.Prelude.{◌≡◌, ◌<◌, ◌≤◌, ◌+◌, ◌%◌};
 ghost use Rattle.ctr_buffer.specs.Ring.{place_of};
 

@@ -1,3 +1,5 @@
+//! An entry: its source, target and type words.
+
 ghost use Rattle.std.specs.Prelude.{◌≡◌, ℕ, ◌%◌, ◌<◌, Bool, replicate};
 ghost use Rattle.ctr_buffer.specs.Entry.{Entry, FitsPart, address_in, flag_in, with_flag, is_valid, is_mispredicted, source_address, target_address, recorded_entry, part_of, with_part, zero_entry, unlinked};
 ghost use Rattle.ctr_buffer.specs.EntryLaws.{ReadsBack, KeepsAllButV};
@@ -188,7 +190,8 @@ pub(crate) fn zeros() -> [Slot; 256]
 /// Laws of the words of an entry: a proof and no work.
 pub fn entry_laws()
     // What is read of the entry of a transfer is what was recorded.
-    ensures reads_back { (source target : ℕ) (misp : Bool) (kind : ℕ) → source % 2 ≡ 0 → target % 2 ≡ 0 → ReadsBack source target misp kind }
+    ensures reads_back { (source target : ℕ) (misp : Bool) (kind : ℕ) → source % 2 ≡ 0 → target % 2
+        ≡ 0 → ReadsBack source target misp kind }
 
     // A return under return-stack emulation clears V and leaves all else.
     ensures unlinked { (e : Entry) → KeepsAllButV e }

@@ -1,3 +1,5 @@
+//! What each record store does: the trait.
+
 ghost use Rattle.std.specs.Prelude.{◌≡◌, ◌<◌, slice_get};
 ghost use Rattle.ctr_buffer.specs.Stack.{Stack, IsStack, size_of, empty, after_push, after_pop, after_swap, after_clear, after_turn, after_resize, after_poke};
 

@@ -1,3 +1,5 @@
+//! Both stores, event by event.
+
 ghost use Rattle.std.specs.Prelude.{◌≡◌, ◌<◌, true};
 ghost use Rattle.ctr_buffer.specs.Entry.{is_valid};
 

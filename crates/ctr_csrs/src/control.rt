@@ -1,3 +1,5 @@
+//! The control registers mctrctl, sctrctl and vsctrctl as words.
+
 ghost use Rattle.std.specs.Prelude.{◌≡◌, ◌&&◌, bit_and, if◌then◌else◌};
 ghost use Rattle.ctr_bits.specs.Mask.{with_masked};
 ghost use Rattle.ctr_csrs.specs.ControlFigure.{is_on, is_shown, m_mask, s_mask};
@@ -62,7 +64,8 @@ pub fn legal_m(value: u64) -> Control
 /// What `mctrctl` holds after a write of `value` to `sctrctl`: M and MTE stay as they were.
 pub fn legal_s(old: Control, value: u64) -> Control
     ensures word { result ≡ with_masked s_mask old value }
-    ensures bits { (bit : ControlBit) → is_on result bit ≡ (if is_shown bit then is_on value bit else is_on old bit) }
+    ensures bits { (bit : ControlBit) → is_on result bit
+        ≡ (if is_shown bit then is_on value bit else is_on old bit) }
 {
     Control {
         word: (old.word & !S_MASK) | (value & S_MASK),

@@ -1,3 +1,5 @@
+//! The bits of the control registers, each with its place.
+
 ghost use Rattle.std.specs.Prelude.{◌≡◌, ◌<◌};
 ghost use Rattle.ctr_csrs.specs.ControlFigure.{place_of};
 

@@ -1,3 +1,5 @@
+//! The depths of a record buffer and their codes.
+
 ghost use Rattle.std.specs.Prelude.{◌≡◌, ◌≤◌, ◌<◌, ◌↔◌, IsSome, IfSome};
 ghost use Rattle.ctr_csrs.specs.Depths.{code_of, entries_of, depth_at};
 

@@ -1,3 +1,5 @@
+//! Laws of depths, of the status word and of external traps.
+
 ghost use Rattle.ctr_csrs.specs.RegisterLaws.{DepthComesBack, EntriesInRange, EntriesTellDepth, PointerComesBack, FrozenComesBack};
 ghost use Rattle.ctr_csrs.specs.TrapLaws.{NeedsModesBetween, PairsRise};
 

@@ -1,3 +1,5 @@
+//! The word of sctrstatus.
+
 ghost use Rattle.std.specs.Prelude.{◌≡◌, ◌<◌};
 ghost use Rattle.ctr_csrs.specs.Depths.{entries_of};
 ghost use Rattle.ctr_csrs.specs.StatusFigure.{word_of, pointer_in, frozen_in};

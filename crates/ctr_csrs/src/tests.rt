@@ -1,3 +1,5 @@
+//! The bits of each register, and each depth with its code.
+
 use super::*;
 
 // Each bit with the word that has it alone, by the register figure of mctrctl (RISC-V Control

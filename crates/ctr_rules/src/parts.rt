@@ -1,3 +1,5 @@
+//! What the recording table asks of a transfer and of the controls.
+
 ghost use Rattle.std.specs.Prelude.{◌≡◌, ◌<◌};
 ghost use Rattle.ctr_csrs.specs.ControlFigure.{place_of};
 ghost use Rattle.ctr_csrs.specs.Modes.{is_virtual};

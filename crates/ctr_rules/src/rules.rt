@@ -1,3 +1,5 @@
+//! What a transfer does to the records: the recording table as code.
+
 ghost use Rattle.std.specs.Prelude.{◌≡◌, ◌≢◌, ◌↔◌, ◌%◌, true, false};
 ghost use Rattle.ctr_rules.specs.Admitted.{act_under, holds, NoRow, OneRow, act_by, row_of, view_of, IsEven, is_branch, RecordsItsOwn, AddressesByMode};
 ghost use Rattle.ctr_rules.specs.FreezeBits.{freezes};

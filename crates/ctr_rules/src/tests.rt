@@ -1,3 +1,5 @@
+//! The recording table, line by line.
+
 ghost use Rattle.std.specs.Prelude.{◌≡◌, true};
 ghost use Rattle.ctr_rules.specs.Admitted.{is_branch};
 

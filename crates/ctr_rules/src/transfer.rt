@@ -1,3 +1,5 @@
+//! A transfer, what is recorded of it, and what it does.
+
 use ctr_csrs::Mode;
 use xfer_class::XferType;
 

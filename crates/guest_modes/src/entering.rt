@@ -1,3 +1,5 @@
+//! What taking a trap does.
+
 ghost use Rattle.std.specs.Prelude.{◌≡◌, ◌≢◌, ◌<◌, ◌%◌, IsTrue};
 ghost use Rattle.ctr_csrs.specs.declared.mode.Mode.{Mode};
 ghost use Rattle.guest_modes.specs.Entry.{nominal, supervisor, guest, guest_left, after_trap, after_trap_to_m, after_trap_to_s, after_trap_to_vs, handler_at, handler_of};

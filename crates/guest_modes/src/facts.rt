@@ -1,3 +1,5 @@
+//! What registers keep to, and that writes, traps and returns keep it.
+
 ghost use Rattle.std.specs.Prelude.{◌^◌, ◌<◌};
 ghost use Rattle.guest_modes.specs.declared.causes.TheConstants.{INTERRUPTS};
 ghost use Rattle.guest_modes.specs.Facts.{IsPriv, WrittenKeeps, ReadFits, RaisedKeeps, ClearedKeeps, EnteredKeeps, HandlerPlace, LeftKeeps, ReturnPlace};

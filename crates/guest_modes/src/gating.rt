@@ -1,3 +1,5 @@
+//! Which register an access reaches.
+
 ghost use Rattle.std.specs.Prelude.{◌≡◌, ◌&&◌, not, IsTrue, IfOk};
 ghost use Rattle.guest_modes.specs.Gate.{gate_answer, is_read_only};
 ghost use Rattle.guest_modes.specs.Numbers.{is_in, is_there, transfer_numbers};

@@ -1,3 +1,5 @@
+//! Which interrupt is taken.
+
 ghost use Rattle.std.specs.Bool.{OnTrue, OnFalse};
 ghost use Rattle.std.specs.Prelude.{◌≡◌, ◌≢◌, ℕ, None, ◌<◌, ◌↔◌, ◌&&◌, IsTrue, IsNone, IfSome, bit_and};
 ghost use Rattle.ctr_csrs.specs.declared.mode.Mode.{Mode};
@@ -78,7 +80,8 @@ fn first_taken_by(p: &Priv, mode: Mode, target: Mode) -> Option<u8>
 // Whether the interrupt is a candidate that `target` takes.
 fn is_open(p: &Priv, mode: Mode, target: Mode, cause: u8) -> bool
     requires { IsTrue (is_in cause interrupt_order) }
-    ensures { result ≡ (is_candidate p.now mode cause && is_same (interrupt_taker p.now cause) target) }
+    ensures { result
+        ≡ (is_candidate p.now mode cause && is_same (interrupt_taker p.now cause) target) }
 {
     has(p.mip.get(), cause)
         && has(p.mie.get(), cause)

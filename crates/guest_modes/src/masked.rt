@@ -1,3 +1,5 @@
+//! A register that keeps some of its bits.
+
 ghost use Rattle.std.specs.Prelude.{◌≡◌, ℕ, ◌+◌, ◌-◌, ◌^◌, ◌<◌, ◌≤◌, bit_and, bit_or};
 ghost use Rattle.ctr_bits.specs.Field.{field_of, with_field};
 ghost use Rattle.ctr_bits.specs.Mask.{with_masked};

@@ -1,3 +1,5 @@
+//! What mstatus keeps.
+
 ghost use Rattle.std.specs.Prelude.{◌≡◌, ◌≢◌, ℕ, ◌+◌, ◌-◌, ◌^◌, ◌<◌, ◌≤◌, bit_and};
 ghost use Rattle.ctr_bits.specs.Field.{field_of, with_field};
 ghost use Rattle.ctr_bits.specs.Mask.{with_masked};

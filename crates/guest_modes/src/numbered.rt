@@ -1,3 +1,5 @@
+//! The registers by number: what each reads as, and what a write of it changes.
+
 ghost use Rattle.std.specs.Prelude.{◌≡◌, ℕ, ◌*◌, ◌/◌, ◌<◌, bit_and, IsTrue};
 ghost use Rattle.guest_modes.specs.Numbers.{is_register};
 ghost use Rattle.guest_modes.specs.Registers.{lowered, lifted, shown, read_of, after_csr_write};

@@ -1,3 +1,5 @@
+//! The registers of a hart's software.
+
 ghost use Rattle.std.specs.Prelude.{◌≡◌, ℕ, ◌-◌, ◌^◌, ◌<◌, bit_and, bit_or, IsTrue};
 ghost use Rattle.guest_modes.specs.Words.{IsWithin};
 
@@ -94,7 +96,8 @@ impl Priv {
     /// Makes an interrupt pending no longer.
     pub fn lower(&mut self, cause: u8)
         requires { IsTrue (is_in cause interrupt_order) }
-        ensures { self.new ≡ record self.old { mip = bit_and self.old.mip (2 ^ 64 - 1 - 2 ^ cause) } }
+        ensures { self.new
+            ≡ record self.old { mip = bit_and self.old.mip (2 ^ 64 - 1 - 2 ^ cause) } }
     {
         self.mip = self.mip.clear(cause);
     }

@@ -1,3 +1,5 @@
+//! Returns from traps.
+
 ghost use Rattle.std.specs.Prelude.{◌≡◌, ◌%◌};
 ghost use Rattle.guest_modes.specs.Returns.{mode_of, mode_after, pc_after, after_return};
 

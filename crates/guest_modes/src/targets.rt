@@ -1,3 +1,5 @@
+//! Which mode takes a trap.
+
 ghost use Rattle.std.specs.Prelude.{◌≡◌, ◌<◌, IsTrue};
 ghost use Rattle.guest_modes.specs.Words.{is_on};
 

@@ -1,3 +1,5 @@
+//! One access of an instruction to a register.
+
 ghost use Rattle.std.specs.Prelude.{◌≡◌, ℕ, ◌↔◌, ◌⊎◌, OnErr};
 ghost use Rattle.guest_modes.specs.Gate.{gate_answer};
 ghost use Rattle.indirect_regs.specs.Access.{is_write, new_value, passed, access_of, ReachesNoEntry};
@@ -37,12 +39,13 @@ pub fn access<B: CtrStore>(
     ensures unit { unit.new ≡ (access_of unit.old p.old mode csr op).unit }
     ensures registers { p.new ≡ (access_of unit.old p.old mode csr op).registers }
     ensures refused { OnErr result ((unit.new ≡ unit.old) × (p.new ≡ p.old)) }
-    ensures is_virtual { (result ≡ Err CsrFault.Virtual) ↔ (gate_answer mode csr (is_write op) ≡ Err CsrFault.Virtual) }
+    ensures is_virtual { (result ≡ Err CsrFault.Virtual)
+        ↔ (gate_answer mode csr (is_write op) ≡ Err CsrFault.Virtual) }
 
     // The gate refuses the access, or it reaches a register of an entry whose select names none.
     ensures is_illegal { (result ≡ Err CsrFault.Illegal)
         ↔ ((gate_answer mode csr (is_write op) ≡ Err CsrFault.Illegal)
-          ⊎ ReachesNoEntry unit.old p.old (gate_answer mode csr (is_write op))) }
+        ⊎ ReachesNoEntry unit.old p.old (gate_answer mode csr (is_write op))) }
 {
     match gate(mode, csr, writes(op)) {
         Ok(number) => use_register(unit, p, number, op),

@@ -1,3 +1,5 @@
+//! Laws of accesses and of a monitor's port.
+
 ghost use Rattle.indirect_regs.specs.Facts.{AccessesKeepFacts, MonitorKeepsFacts};
 ghost use Rattle.indirect_regs.specs.Laws.{MonitorReachesAsM, FrozenChangesByStatus, EventsMakeTheBuffer};
 

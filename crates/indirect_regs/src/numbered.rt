@@ -1,3 +1,5 @@
+//! The registers by number, those of the unit among them.
+
 ghost use Rattle.std.specs.Prelude.{◌≡◌, ◌≤◌, ◌<◌};
 ghost use Rattle.indirect_regs.specs.Unit.{after_any};
 ghost use Rattle.indirect_regs.specs.Ports.{names_entry, part_written};
@@ -50,7 +52,8 @@ pub(crate) fn write_register<B: CtrStore>(
     number: u16,
     value: u64,
 )
-    ensures unit { unit.new ≡ record ((row_of number).unit unit.old value) { stack = after_any unit.old.stack ((row_of number).event unit.old p.old value) } }
+    ensures unit { unit.new ≡ record ((row_of number).unit unit.old value)
+        { stack = after_any unit.old.stack ((row_of number).event unit.old p.old value) } }
     ensures registers { p.new ≡ (row_of number).registers p.old value }
 {
     match number {
@@ -99,7 +102,8 @@ fn read_unused(select: u16) -> Option<u64>
 }
 
 fn write_part<B: CtrStore>(unit: &mut CtrUnit<B>, select: u16, part: Part, value: u64)
-    ensures { unit.new ≡ record unit.old { stack = after_any unit.old.stack (part_written unit.old.stack select part value) } }
+    ensures { unit.new ≡ record unit.old
+        { stack = after_any unit.old.stack (part_written unit.old.stack select part value) } }
 {
     let event = unit.part_event(select, part, value);
     unit.perform_any(event);

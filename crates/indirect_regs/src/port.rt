@@ -1,3 +1,5 @@
+//! A monitor's way to the registers of the unit.
+
 ghost use Rattle.std.specs.Prelude.{◌≡◌, ℕ, ◌+◌, ◌^◌, ◌<◌};
 ghost use Rattle.indirect_regs.specs.Unit.{UnitState, IsUnit, cleared_unit};
 ghost use Rattle.indirect_regs.specs.Ports.{read, after_write, Selects, Legal};

@@ -1,3 +1,5 @@
+//! Accesses by number and mode, and a monitor's port.
+
 ghost use Rattle.std.specs.Prelude.{◌≡◌, ◌+◌, ◌<◌};
 
 use crate::{CsrUse, CtrPort, CtrUnit, PortReg, access};

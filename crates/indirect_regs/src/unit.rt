@@ -1,3 +1,5 @@
+//! The control transfer unit of a hart.
+
 ghost use Rattle.std.specs.Prelude.{◌≡◌, ℕ, ◌%◌, ◌<◌, ◌≤◌, Option};
 ghost use Rattle.ctr_csrs.specs.Depths.{depth_at};
 ghost use Rattle.ctr_buffer.specs.Entry.{FitsPart, part_of};

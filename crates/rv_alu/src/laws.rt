@@ -1,3 +1,5 @@
+//! Laws of products, quotients and remainders.
+
 ghost use Rattle.rv_alu.specs.Laws.{DivisionByZero, DivisionJoins, DivisionOverflows, HalvesJoin, MixedHalvesJoin, SignedDivisionJoins, SignedHalvesJoin, SignedWordDivisionJoins, WordDivisionJoins};
 ghost use Rattle.rv_alu.specs.Sizes.{ValuesFit};
 

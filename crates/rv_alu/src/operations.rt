@@ -1,3 +1,5 @@
+//! The operations of RV64I and M on two words.
+
 ghost use Rattle.std.specs.Prelude.{◌≡◌};
 ghost use Rattle.rv_alu.specs.Value.{value};
 

@@ -1,3 +1,5 @@
+//! An instruction with its operands.
+
 use crate::operations::{AluOp, Cond, CsrOp, Width};
 
 /// The operand of a CSR instruction (Zicsr).

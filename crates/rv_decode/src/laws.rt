@@ -1,3 +1,5 @@
+//! Laws of the table and of the numbers in an instruction.
+
 ghost use Rattle.rv_decode.specs.Laws.{OneRow, OneInstr, RowsFit, RowWordsFit, DecodedWordsFit};
 
 /// The laws of the table of instructions, of every word: a proof and no work.

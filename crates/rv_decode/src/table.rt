@@ -1,3 +1,6 @@
+//! The table of instructions, as nested matches (RISC-V Unprivileged ISA, "RV32/64G Instruction Set
+//! Listings").
+
 ghost use Rattle.std.specs.Prelude.{◌≡◌};
 ghost use Rattle.rv_decode.specs.Rows.{instruction_of};
 

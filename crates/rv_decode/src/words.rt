@@ -1,3 +1,5 @@
+//! The instruction of a word: the public call.
+
 ghost use Rattle.std.specs.Prelude.{◌≡◌, ◌↔◌, IfSome};
 ghost use Rattle.rv_decode.specs.Rows.{Row, instruction_of};
 ghost use Rattle.rv_decode.specs.Numbers.{NumbersFit};

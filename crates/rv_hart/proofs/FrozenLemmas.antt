@@ -260,7 +260,6 @@ freezes_set_frozen pending s =
 
 -- by the law of accesses
 module _ (accesses : FrozenChangesByStatus) where
-
   pub instruction_changes : (i : Instr) (word : ℕ) (c : CoreState) (u : UnitState) (bytes : List ℕ)
       → StepChanges (instruction_ending i word c u bytes) (Some i) c u (executed i word c u bytes)
   instruction_changes (Csr op rd arg csr) word c u bytes =

@@ -60,7 +60,8 @@ fn jump_of(instr: Instr, taken: bool) -> Option<Jump>
 fn jump(core: &mut Core, jump: Option<Jump>, rd: u8, target: u64) -> Outcome
     requires rd { rd < 32 }
     requires jump { IfSome jump IsJump }
-    ensures effect { (bytes : List ℕ) → record { core = core.new; bytes = bytes; outcome = result } ≡ jumps jump rd target core.old bytes }
+    ensures effect { (bytes : List ℕ) → record { core = core.new; bytes = bytes; outcome = result }
+        ≡ jumps jump rd target core.old bytes }
     ensures sound { IsSound result }
 {
     if target % 4 != 0 {
@@ -75,7 +76,8 @@ fn jump(core: &mut Core, jump: Option<Jump>, rd: u8, target: u64) -> Outcome
 #[inline(always)]
 fn branch(core: &Core, taken: bool, jump: Option<Jump>, target: u64) -> Outcome
     requires { IfSome jump IsJump }
-    ensures effect { (bytes : List ℕ) → record { core = core.now; bytes = bytes; outcome = result } ≡ branches taken jump target core.now bytes }
+    ensures effect { (bytes : List ℕ) → record { core = core.now; bytes = bytes; outcome = result }
+        ≡ branches taken jump target core.now bytes }
     ensures sound { IsSound result }
 {
     if !taken {
@@ -90,7 +92,8 @@ fn branch(core: &Core, taken: bool, jump: Option<Jump>, target: u64) -> Outcome
 #[inline(always)]
 fn load(core: &mut Core, mem: &TaskMem, width: Width, signed: bool, rd: u8, address: u64) -> Outcome
     requires { rd < 32 }
-    ensures effect { record { core = core.new; bytes = mem.now; outcome = result } ≡ loads width signed rd address core.old mem.now }
+    ensures effect { record { core = core.new; bytes = mem.now; outcome = result }
+        ≡ loads width signed rd address core.old mem.now }
     ensures sound { IsSound result }
 {
     let bytes = count(width);
@@ -108,7 +111,8 @@ fn load(core: &mut Core, mem: &TaskMem, width: Width, signed: bool, rd: u8, addr
 
 #[inline(always)]
 fn store(core: &Core, mem: &mut TaskMem, width: Width, value: u64, address: u64) -> Outcome
-    ensures effect { record { core = core.now; bytes = mem.new; outcome = result } ≡ stores width value address core.now mem.old }
+    ensures effect { record { core = core.now; bytes = mem.new; outcome = result }
+        ≡ stores width value address core.now mem.old }
     ensures sound { IsSound result }
 {
     let bytes = count(width);
@@ -168,7 +172,8 @@ fn sret(mode: Mode, word: u32) -> Outcome
 #[inline(always)]
 pub(crate) fn execute(core: &mut Core, mem: &mut TaskMem, instr: Instr, word: u32) -> Outcome
     requires { NumbersFit instr }
-    ensures effect { record { core = core.new; bytes = mem.new; outcome = result } ≡ effect instr word core.old mem.old }
+    ensures effect { record { core = core.new; bytes = mem.new; outcome = result }
+        ≡ effect instr word core.old mem.old }
     ensures sound { IsSound result }
 {
     match instr {

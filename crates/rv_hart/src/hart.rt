@@ -1,3 +1,5 @@
+//! A hart, its counts and its resident, and what a monitor does with it.
+
 ghost use Rattle.std.specs.Prelude.{◌≡◌, ◌+◌, ◌^◌, ◌<◌, bit_or};
 ghost use Rattle.std.specs.Bool.{OnTrue, OnFalse};
 ghost use Rattle.guest_modes.specs.Words.{IsWithin};
@@ -75,7 +77,8 @@ impl<B: CtrStore> Hart<B> {
         requires pending { IsWithin INTERRUPTS pending }
         requires steps { self.old.steps < 2 ^ 63 }
         ensures state { machine_of self.new mem.new ≡ next pending (machine_of self.old mem.old) }
-        ensures rest { self.new ≡ record self.old { core = self.new.core; unit = self.new.unit; steps = self.old.steps + 1 } }
+        ensures rest { self.new ≡ record self.old
+            { core = self.new.core; unit = self.new.unit; steps = self.old.steps + 1 } }
     {
         raise(&mut self.core.csrs, pending);
         self.steps += 1;

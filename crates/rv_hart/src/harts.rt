@@ -1,3 +1,5 @@
+//! Sixteen harts, made once.
+
 ghost use Rattle.std.specs.Bool.{OnTrue, OnFalse};
 ghost use Rattle.std.specs.Prelude.{◌≡◌, ◌↔◌, ◌<◌, IsTrue, IfOk, Some, length, slice_get};
 ghost use Rattle.rv_hart.specs.Hart.{fresh_harts};
@@ -65,7 +67,8 @@ impl Harts {
     /// Hart `h`, which is below 16, to change.
     pub fn hart_mut(&mut self, h: usize) -> &mut Hart<Store>
         requires { h < 16 }
-        ensures* lends { sem 𝓛 (Lends the_row (hart.the_row store.the_row ⟦<Store as CtrStore>⟧) self.entry result (slice_set self.entry.now h)) }
+        ensures* lends { sem 𝓛 (Lends the_row (hart.the_row store.the_row ⟦<Store as CtrStore>⟧)
+            self.entry result (slice_set self.entry.now h)) }
         ensures hart { slice_get self.old h ≡ Some result.now }
         ensures sixteen { length self.old ≡ 16 }
     {

@@ -66,21 +66,26 @@ pub fn lone_run_laws()
     ensures first { (t : Task) → IsUnit (first_state t).unit }
 
     // What becomes pending at a step of the run is what a step of a hart takes.
-    ensures pending { (irqs : List Irq) (n : ℕ) → AreInterrupts irqs → IsWithin INTERRUPTS (causes irqs n) }
+    ensures pending { (irqs : List Irq) (n : ℕ) → AreInterrupts irqs
+        → IsWithin INTERRUPTS (causes irqs n) }
 
     // The record buffer of a lone run is what its history leaves: the depth, the list, and the pointer, which is counted.
     ensures follows { (t : Task) (n : ℕ) → FollowsHistory (lone_run t n) }
 
     // A step of any state whose record buffer is what its history leaves leads to such a state.
-    ensures next_follows { (pending : ℕ) (t : RunState) → FollowsHistory t → FollowsHistory (run_next pending t) }
+    ensures next_follows { (pending : ℕ) (t : RunState) → FollowsHistory t
+        → FollowsHistory (run_next pending t) }
 
     // Two states that agree in the depth, the list, the pointer and all else agree after the same step, and its events
     // are the same.
-    ensures agree { (pending : ℕ) (a b : RunState) → HaveSameState a b → HaveSameState (run_next pending a) (run_next pending b) }
-    ensures events { (pending : ℕ) (a b : RunState) → HaveSameState a b → events_of pending a.state ≡ events_of pending b.state }
+    ensures agree { (pending : ℕ) (a b : RunState) → HaveSameState a b
+        → HaveSameState (run_next pending a) (run_next pending b) }
+    ensures events { (pending : ℕ) (a b : RunState) → HaveSameState a b → events_of pending a.state
+        ≡ events_of pending b.state }
 
     // The state of a lone run is what as many steps make of the first state.
-    ensures state { (t : Task) (n : ℕ) → (lone_run t n).state ≡ after_steps t.irqs 0 n (first_state t) }
+    ensures state { (t : Task) (n : ℕ) → (lone_run t n).state
+        ≡ after_steps t.irqs 0 n (first_state t) }
 
     // So many steps and then so many more are their sum, of every state and of a lone run.
     ensures join { StepsJoin }

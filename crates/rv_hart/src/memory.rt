@@ -1,3 +1,5 @@
+//! The memory of a task.
+
 ghost use Rattle.std.specs.Prelude.{◌≡◌, ◌+◌, ◌*◌, ◌≤◌, ◌^◌, ◌<◌, ◌++◌, length, take, drop, IfOk, IfSome};
 ghost use Rattle.rv_decode.specs.declared.operations.Width.TheVariants.{W};
 ghost use Rattle.rv_hart.specs.Memory.{memory_of, place_of, bytes_of, number_at, loaded, stored};
@@ -107,7 +109,8 @@ impl TaskMem {
     #[inline(always)]
     fn put(&mut self, at: usize, bytes: &[u8])
         requires { at + length bytes.now ≤ length self.old }
-        ensures { self.new ≡ take at self.old ++ (bytes.now ++ drop (at + length bytes.now) self.old) }
+        ensures { self.new
+            ≡ take at self.old ++ (bytes.now ++ drop (at + length bytes.now) self.old) }
     {
         self.bytes[at..at + bytes.len()].copy_from_slice(bytes);
     }

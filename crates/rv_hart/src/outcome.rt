@@ -1,3 +1,5 @@
+//! How an instruction goes on.
+
 use guest_modes::Ret;
 use xfer_class::XferType;
 

@@ -1,3 +1,5 @@
+//! The core of a hart: registers, program counter and mode.
+
 ghost use Rattle.std.specs.Prelude.{◌≡◌, ◌<◌, ◌%◌, replicate};
 ghost use Rattle.rv_hart.specs.Processor.{CoreState, fresh_core, plus, reg, put, at_next};
 

@@ -32,7 +32,9 @@ impl<B: CtrStore> Hart<B> {
     // Takes a trap.
     fn trap(&mut self, trap: Trap, value: u64)
         requires cause { IsTrue (is_cause trap) }
-        requires between { IsTrue (is_trap_between self.old.core.mode (target_of self.old.core.csrs self.old.core.mode trap)) }
+        requires between { IsTrue
+            (is_trap_between self.old.core.mode
+            (target_of self.old.core.csrs self.old.core.mode trap)) }
         ensures { self.new ≡ ran self.old (trapped trap value self.old.core self.old.unit) }
     {
         let from = self.core.mode;
@@ -59,7 +61,8 @@ impl<B: CtrStore> Hart<B> {
     #[inline(never)]
     fn raise(&mut self, cause: u8, value: u64)
         requires { IsTrue (is_cause (Trap.Exception cause)) }
-        ensures { self.new ≡ ran self.old (trapped (Trap.Exception cause) value self.old.core self.old.unit) }
+        ensures { self.new
+            ≡ ran self.old (trapped (Trap.Exception cause) value self.old.core self.old.unit) }
     {
         // For its clause: the modes of an exception are the same, or a pair of the table of traps.
         let _target = trap_target(&self.core.csrs, self.core.mode, Trap::Exception(cause));
@@ -151,8 +154,10 @@ impl<B: CtrStore> Hart<B> {
 
     // Reads and writes a register by its number.
     fn use_register(&mut self, op: CsrUse, csr: u16) -> Result<u64, CsrFault>
-        ensures answer { result ≡ (access_of self.old.unit self.old.core.csrs self.old.core.mode csr op).answer }
-        ensures hart { self.new ≡ reached self.old (access_of self.old.unit self.old.core.csrs self.old.core.mode csr op) }
+        ensures answer { result
+            ≡ (access_of self.old.unit self.old.core.csrs self.old.core.mode csr op).answer }
+        ensures hart { self.new ≡ reached self.old
+            (access_of self.old.unit self.old.core.csrs self.old.core.mode csr op) }
         ensures refused { OnErr result (self.new ≡ self.old) }
         ensures events { EventsMakeTheBuffer }
     {
@@ -184,7 +189,9 @@ impl<B: CtrStore> Hart<B> {
     #[inline(never)]
     fn access(&mut self, op: CsrUse, rd: u8, csr: u16, word: u32)
         requires { rd < 32 }
-        ensures { self.new ≡ ran self.old (by_access (access_of self.old.unit self.old.core.csrs self.old.core.mode csr op) rd word self.old.core self.old.unit) }
+        ensures { self.new ≡ ran self.old
+            (by_access (access_of self.old.unit self.old.core.csrs self.old.core.mode csr op) rd
+            word self.old.core self.old.unit) }
     {
         match self.use_register(op, csr) {
             Ok(old) => self.give(rd, old),
@@ -195,7 +202,8 @@ impl<B: CtrStore> Hart<B> {
     // Makes every entry zero, where the mode may.
     #[inline(never)]
     fn clear_records(&mut self, word: u32)
-        ensures { self.new ≡ ran self.old (clears self.old.core.mode word self.old.core self.old.unit) }
+        ensures { self.new
+            ≡ ran self.old (clears self.old.core.mode word self.old.core self.old.unit) }
     {
         match self.core.mode {
             Mode::U => self.raise(ILLEGAL_INSTRUCTION, u64::from(word)),
@@ -211,7 +219,8 @@ impl<B: CtrStore> Hart<B> {
     #[inline(always)]
     fn perform(&mut self, mem: &mut TaskMem, instr: Instr, word: u32)
         requires { NumbersFit instr }
-        ensures hart { self.new ≡ ran self.old (by_effect (effect instr word self.old.core mem.old) self.old.unit) }
+        ensures hart { self.new
+            ≡ ran self.old (by_effect (effect instr word self.old.core mem.old) self.old.unit) }
         ensures mem { mem.new ≡ (effect instr word self.old.core mem.old).bytes }
     {
         let outcome = execute(&mut self.core, mem, instr, word);
@@ -221,7 +230,8 @@ impl<B: CtrStore> Hart<B> {
     // Executes an instruction, whose word is given too.
     fn execute(&mut self, mem: &mut TaskMem, instr: Instr, word: u32)
         requires { NumbersFit instr }
-        ensures hart { self.new ≡ ran self.old (executed instr word self.old.core self.old.unit mem.old) }
+        ensures hart { self.new
+            ≡ ran self.old (executed instr word self.old.core self.old.unit mem.old) }
         ensures mem { mem.new ≡ (effect instr word self.old.core mem.old).bytes }
     {
         match instr {
@@ -328,8 +338,10 @@ impl<B: CtrStore> Hart<B> {
 
     // Decodes a word and executes it.
     fn run_word(&mut self, mem: &mut TaskMem, word: u32)
-        ensures hart { self.new ≡ ran self.old (by_instruction (instruction_of word) word (machine_of self.old mem.old)).step }
-        ensures mem { mem.new ≡ (by_instruction (instruction_of word) word (machine_of self.old mem.old)).mem }
+        ensures hart { self.new ≡ ran self.old
+            (by_instruction (instruction_of word) word (machine_of self.old mem.old)).step }
+        ensures mem { mem.new
+            ≡ (by_instruction (instruction_of word) word (machine_of self.old mem.old)).mem }
     {
         match decode(word) {
             Some(instr) => self.execute(mem, instr, word),
@@ -341,8 +353,10 @@ impl<B: CtrStore> Hart<B> {
     // around it has the registers of the host.
     #[inline(never)]
     fn run(&mut self, mem: &mut TaskMem)
-        ensures hart { self.new ≡ ran self.old (by_word (fetched (machine_of self.old mem.old)) (machine_of self.old mem.old)).step }
-        ensures mem { mem.new ≡ (by_word (fetched (machine_of self.old mem.old)) (machine_of self.old mem.old)).mem }
+        ensures hart { self.new ≡ ran self.old
+            (by_word (fetched (machine_of self.old mem.old)) (machine_of self.old mem.old)).step }
+        ensures mem { mem.new
+            ≡ (by_word (fetched (machine_of self.old mem.old)) (machine_of self.old mem.old)).mem }
     {
         match self.fetch(mem) {
             Some(word) => self.run_word(mem, word),
@@ -354,8 +368,10 @@ impl<B: CtrStore> Hart<B> {
     #[inline(never)]
     fn interrupt(&mut self, cause: u8)
         requires cause { IsTrue (is_cause (Trap.Interrupt cause)) }
-        requires between { IsTrue (is_trap_between self.old.core.mode (interrupt_taker self.old.core.csrs cause)) }
-        ensures { self.new ≡ ran self.old (trapped (Trap.Interrupt cause) 0 (lowered cause self.old.core) self.old.unit) }
+        requires between { IsTrue
+            (is_trap_between self.old.core.mode (interrupt_taker self.old.core.csrs cause)) }
+        ensures { self.new ≡ ran self.old
+            (trapped (Trap.Interrupt cause) 0 (lowered cause self.old.core) self.old.unit) }
     {
         self.core.csrs.lower(cause);
         self.trap(Trap::Interrupt(cause), 0);

@@ -1,3 +1,5 @@
+//! Programs in M with what they leave.
+
 use crate::{Core, Hart, Harts, TaskMem};
 use ctr_buffer::ListStore;
 use ctr_csrs::Mode;

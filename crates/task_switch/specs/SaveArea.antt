@@ -4,7 +4,7 @@ use Rattle.std.specs.Prelude.{◌≡◌, ◌<◌, length, bit_and}
 use Rattle.ctr_csrs.specs.ControlFigure.{m_mask, s_mask}
 use Rattle.ctr_csrs.specs.Depths.{entries_of}
 use Rattle.ctr_csrs.specs.StatusFigure.{word_of, pointer_in, frozen_in}
-use Rattle.indirect_regs.specs.Unit.{UnitState}
+use Rattle.indirect_regs.specs.Unit.{UnitState, IsUnit}
 use Rattle.task_switch.specs.declared.save_area.SaveArea.{SaveArea}
 
 -- what is kept of a unit
@@ -35,3 +35,7 @@ pub record IsWhole (a : SaveArea) : Type 0 where
   pub status : word_of (record { wrptr = pointer_in a.status a.depth; frozen = frozen_in a.status }) ≡ a.status
   pub select : a.select < 4096
   pub full : length a.slots ≡ entries_of a.depth
+
+-- the unit that an area holds is the one that it keeps
+abbrev pub UnitComesBack : Type 0
+UnitComesBack = (u : UnitState) → IsUnit u → unit_in (area_of u) ≡ u

@@ -1,3 +1,5 @@
+//! One entry through a port.
+
 ghost use Rattle.std.specs.Prelude.{◌≡◌, ◌<◌, ◌≤◌, ◌+◌, ◌^◌, length};
 ghost use Rattle.ctr_buffer.specs.Entry.{FitsPart, with_part};
 ghost use Rattle.ctr_buffer.specs.Stack.{size_of, entry_at, after_poke};
@@ -51,7 +53,8 @@ pub(crate) fn write_entry<P: CtrPort>(port: &mut P, i: u16, slot: Slot)
     requires within { i < size_of (P.unit port.old).stack }
     requires small { i < 256 }
     requires there { i < length (P.unit port.old).stack.slots }
-    ensures unit { P.unit port.new ≡ record (P.unit port.old) { select = 512 + i; stack = after_poke (P.unit port.old).stack i slot } }
+    ensures unit { P.unit port.new ≡ record (P.unit port.old)
+        { select = 512 + i; stack = after_poke (P.unit port.old).stack i slot } }
     ensures count { P.count port.new ≡ P.count port.old + 4 }
     ensures rest { P.same_rest port.old port.new }
 {
@@ -69,7 +72,10 @@ fn write_part<P: CtrPort>(port: &mut P, i: u16, part: Part, value: u64)
     requires within { i < size_of (P.unit port.old).stack }
     requires small { i < 256 }
     requires fits { FitsPart part value }
-    ensures unit { P.unit port.new ≡ record (P.unit port.old) { stack = after_poke (P.unit port.old).stack i (with_part (entry_at (P.unit port.old).stack i) part value) } }
+    ensures unit { P.unit port.new ≡ record (P.unit port.old) {
+      stack = after_poke (P.unit port.old).stack i
+          (with_part (entry_at (P.unit port.old).stack i) part value);
+    } }
     ensures count { P.count port.new ≡ P.count port.old + 1 }
     ensures rest { P.same_rest port.old port.new }
 {

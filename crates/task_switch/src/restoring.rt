@@ -1,3 +1,5 @@
+//! What a hart gets when a task comes to it.
+
 ghost use Rattle.std.specs.Prelude.{◌≡◌, ◌≤◌, ◌+◌, ◌*◌, ◌^◌, length, replicate};
 ghost use Rattle.ctr_csrs.specs.Depths.{entries_of};
 ghost use Rattle.ctr_csrs.specs.StatusFigure.{pointer_in, frozen_in};
@@ -30,7 +32,13 @@ pub fn restore<P: CtrPort>(port: &mut P, area: &SaveArea)
 // Gives the buffer a depth and zero entries, in 2 accesses. The pointer is 0 or as before.
 fn empty_to<P: CtrPort>(port: &mut P, depth: Depth)
     requires { P.count port.old ≤ 2 ^ 62 }
-    ensures unit { P.unit port.new ≡ record (P.unit port.old) { stack = record { depth = depth; slots = replicate (entries_of depth) zero_entry; pointer = (P.unit port.new).stack.pointer } } }
+    ensures unit { P.unit port.new ≡ record (P.unit port.old) {
+      stack = record {
+        depth = depth;
+        slots = replicate (entries_of depth) zero_entry;
+        pointer = (P.unit port.new).stack.pointer;
+      };
+    } }
     ensures count { P.count port.new ≡ P.count port.old + 2 }
     ensures rest { P.same_rest port.old port.new }
 {
@@ -41,8 +49,16 @@ fn empty_to<P: CtrPort>(port: &mut P, depth: Depth)
 // Writes the status, in 1 access. The entries move as the pointer does.
 fn point_to<P: CtrPort>(port: &mut P, status: u64)
     requires room { P.count port.old ≤ 2 ^ 62 + 2000 }
-    requires full { length (P.unit port.old).stack.slots ≡ entries_of (P.unit port.old).stack.depth }
-    ensures unit { P.unit port.new ≡ record (P.unit port.old) { frozen = frozen_in status; stack = record { depth = (P.unit port.old).stack.depth; slots = (P.unit port.new).stack.slots; pointer = pointer_in status (P.unit port.old).stack.depth } } }
+    requires full { length (P.unit port.old).stack.slots
+        ≡ entries_of (P.unit port.old).stack.depth }
+    ensures unit { P.unit port.new ≡ record (P.unit port.old) {
+      frozen = frozen_in status;
+      stack = record {
+        depth = (P.unit port.old).stack.depth;
+        slots = (P.unit port.new).stack.slots;
+        pointer = pointer_in status (P.unit port.old).stack.depth;
+      };
+    } }
     ensures full { length (P.unit port.new).stack.slots ≡ entries_of (P.unit port.old).stack.depth }
     ensures count { P.count port.new ≡ P.count port.old + 1 }
     ensures rest { P.same_rest port.old port.new }
@@ -55,7 +71,8 @@ fn write_entries<P: CtrPort>(port: &mut P, slots: &[Slot])
     requires room { P.count port.old ≤ 2 ^ 62 + 8 }
     requires small { length slots.now ≤ 256 }
     requires all { length slots.now ≡ entries_of (P.unit port.old).stack.depth }
-    requires full { length (P.unit port.old).stack.slots ≡ entries_of (P.unit port.old).stack.depth }
+    requires full { length (P.unit port.old).stack.slots
+        ≡ entries_of (P.unit port.old).stack.depth }
     ensures unit { P.unit port.new ≡ filled (length slots.now) slots.now (P.unit port.old) }
     ensures count { P.count port.new ≡ P.count port.old + 4 * length slots.now }
     ensures rest { P.same_rest port.old port.new }

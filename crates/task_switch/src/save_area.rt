@@ -1,3 +1,5 @@
+//! Where the unit of a task is kept while it is on no hart.
+
 ghost use Rattle.std.specs.Prelude.{◌≡◌, ◌≤◌, replicate, bit_and};
 ghost use Rattle.ctr_csrs.specs.ControlFigure.{m_mask, s_mask};
 ghost use Rattle.ctr_buffer.specs.Entry.{zero_entry};
@@ -35,8 +37,16 @@ impl SaveArea {
     /// The area of a task that hasn't run: zero entries, WRPTR 0, FROZEN 0, select 0, and of the words `m` and `vs` the
     /// bits that `mctrctl` and `vsctrctl` keep.
     pub fn fresh(depth: Depth, m: u64, vs: u64) -> SaveArea
-        ensures area { result ≡ record { m = bit_and m m_mask; vs = bit_and vs s_mask; depth = depth; status = 0; select = 0; slots = replicate (entries_of depth) zero_entry } }
-        ensures holds { unit_in result ≡ record (fresh_unit depth) { m = bit_and m m_mask; vs = bit_and vs s_mask } }
+        ensures area { result ≡ record {
+          m = bit_and m m_mask;
+          vs = bit_and vs s_mask;
+          depth = depth;
+          status = 0;
+          select = 0;
+          slots = replicate (entries_of depth) zero_entry;
+        } }
+        ensures holds { unit_in result
+            ≡ record (fresh_unit depth) { m = bit_and m m_mask; vs = bit_and vs s_mask } }
         ensures whole { IsWhole result }
     {
         SaveArea {

@@ -1,3 +1,5 @@
+//! What a task takes with it when it leaves a hart.
+
 ghost use Rattle.std.specs.Prelude.{◌≡◌, ◌≤◌, ◌+◌, ◌*◌, ◌^◌, take, length};
 ghost use Rattle.ctr_csrs.specs.Depths.{entries_of};
 ghost use Rattle.task_switch.specs.SaveArea.{area_of, unit_in, IsWhole};
@@ -17,7 +19,8 @@ pub fn save<P: CtrPort>(port: &mut P, area: &mut SaveArea)
     ensures holds { unit_in area.new ≡ P.unit port.old }
     ensures whole { IsWhole area.new }
     ensures unit { P.unit port.new ≡ with_last_select (P.unit port.old) }
-    ensures count { P.count port.new ≡ P.count port.old + (5 + 4 * entries_of (P.unit port.old).stack.depth) }
+    ensures count { P.count port.new
+        ≡ P.count port.old + (5 + 4 * entries_of (P.unit port.old).stack.depth) }
     ensures rest { P.same_rest port.old port.new }
 {
     area.depth = read_depth(port);

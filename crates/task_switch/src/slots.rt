@@ -1,3 +1,5 @@
+//! Entries that were read, youngest first.
+
 ghost use Rattle.std.specs.Prelude.{◌≡◌, ◌<◌, ◌≤◌, [], ◌∷◌, ◌++◌, length, replicate};
 ghost use Rattle.ctr_buffer.specs.Entry.{zero_entry};
 

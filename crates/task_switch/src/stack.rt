@@ -1,3 +1,5 @@
+//! The entries with V, read through a port.
+
 ghost use Rattle.std.specs.Prelude.{◌≡◌, ◌≤◌, ◌<◌, ◌+◌, ◌*◌, ◌^◌, ◌++◌, ◌∷◌, [], take, length};
 ghost use Rattle.ctr_csrs.specs.Depths.{entries_of};
 ghost use Rattle.ctr_buffer.specs.Entry.{valid_entries};
@@ -15,7 +17,8 @@ pub fn read_stack<P: CtrPort>(port: &mut P) -> Slots
     requires { P.count port.old ≤ 2 ^ 62 }
     ensures slots { result ≡ valid_entries (P.unit port.old).stack.slots }
     ensures unit { P.unit port.new ≡ P.unit port.old }
-    ensures count { P.count port.new ≡ P.count port.old + (3 + 4 * entries_of (P.unit port.old).stack.depth) }
+    ensures count { P.count port.new
+        ≡ P.count port.old + (3 + 4 * entries_of (P.unit port.old).stack.depth) }
     ensures rest { P.same_rest port.old port.new }
 {
     let mut slots = Slots::new();

@@ -1,6 +1,8 @@
+//! Save, restore and read over a port that counts.
+
 ghost use Rattle.std.specs.Prelude.{◌≡◌};
 
-use crate::{SaveArea, read_stack, restore, save};
+use crate::{SaveArea, area_laws, read_stack, restore, save};
 use ctr_buffer::{Event, ListStore, Slot};
 use ctr_csrs::Depth;
 use indirect_regs::{CtrPort, CtrUnit, PortReg};
@@ -128,6 +130,7 @@ fn moved(rt: &impl Abort, depth: Depth, code: u64, saving: u64, restoring: u64) 
 
 #[test]
 fn a_unit_moves_to_another_hart(rt: HostRuntime) {
+    area_laws();
     moved(&rt, Depth::D16, 0, 69, 70); // 5 + 4·16, 6 + 4·16
     moved(&rt, Depth::D256, 4, 1029, 1030); // 5 + 4·256, 6 + 4·256
 }

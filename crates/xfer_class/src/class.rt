@@ -1,3 +1,6 @@
+//! The transfer type of an instruction (RISC-V Control Transfer Records 1.0, "Transfer Types";
+//! Unprivileged ISA, "Return-address prediction stack" hints of JAL and JALR).
+
 ghost use Rattle.std.specs.Prelude.{◌≡◌, ◌↔◌};
 ghost use Rattle.xfer_class.specs.Types.{link, jal_type, jalr_type, type_of};
 ghost use Rattle.xfer_class.specs.TypeRows.{HasType, HasNoType};

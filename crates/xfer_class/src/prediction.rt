@@ -1,3 +1,5 @@
+//! The static predictor of this project.
+
 ghost use Rattle.std.specs.Prelude.{◌≡◌, true, Some, cond};
 ghost use Rattle.xfer_class.specs.Types.{type_of};
 ghost use Rattle.xfer_class.specs.declared.types.XferType.TheVariants.{NotTaken, Taken};

@@ -1,3 +1,5 @@
+//! Types of instructions, and what the predictor misses.
+
 use crate::{XferType, class_of, missed, prediction_laws};
 use rv_decode::{AluOp, Cond, CsrArg, CsrOp, Instr, Width, decode};
 

@@ -1,3 +1,5 @@
+//! The transfer types and their numbers (RISC-V Control Transfer Records 1.0, "Transfer Types").
+
 ghost use Rattle.std.specs.Prelude.{◌≡◌, ◌<◌};
 ghost use Rattle.xfer_class.specs.Types.{code_of};
 

@@ -168,9 +168,27 @@ fn interrupts_have_handlers_of_their_own_in_vectored_mode(rt: HostRuntime) {
 #[test]
 fn interrupts_of_vs_have_other_numbers_in_vs_alone(rt: HostRuntime) {
     for (cause, in_s, s_handler, in_vs, vs_handler) in [
-        (2, 0x8000_0000_0000_0002, 0x2008, 0x8000_0000_0000_0001, 0x3004),
-        (6, 0x8000_0000_0000_0006, 0x2018, 0x8000_0000_0000_0005, 0x3014),
-        (10, 0x8000_0000_0000_000A, 0x2028, 0x8000_0000_0000_0009, 0x3024),
+        (
+            2,
+            0x8000_0000_0000_0002,
+            0x2008,
+            0x8000_0000_0000_0001,
+            0x3004,
+        ),
+        (
+            6,
+            0x8000_0000_0000_0006,
+            0x2018,
+            0x8000_0000_0000_0005,
+            0x3014,
+        ),
+        (
+            10,
+            0x8000_0000_0000_000A,
+            0x2028,
+            0x8000_0000_0000_0009,
+            0x3024,
+        ),
     ] {
         for (hideleg, mode, handler, register, word) in [
             (0, Mode::S, s_handler, 0x142, in_s),
@@ -187,7 +205,11 @@ fn interrupts_of_vs_have_other_numbers_in_vs_alone(rt: HostRuntime) {
                     p.lower(other);
                 }
             }
-            assert_eq!(rt; pick_interrupt(&p, Mode::Vu), Some(cause), "{cause} is next");
+            assert_eq!(rt;
+                pick_interrupt(&p, Mode::Vu),
+                Some(cause),
+                "{cause} is next"
+            );
             assert_eq!(rt;
                 enter_trap(&mut p, Mode::Vu, Trap::Interrupt(cause), 0x8000_0000, 0),
                 (mode, handler),

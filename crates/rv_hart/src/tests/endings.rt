@@ -302,7 +302,13 @@ const ENDINGS: [Ending; 46] = [
     Ending {
         word: 0x0000_0163,
         x5: X5,
-        ends: [(0, PC + 2), (0, PC + 2), (0, PC + 2), (0, PC + 2), (0, PC + 2)],
+        ends: [
+            (0, PC + 2),
+            (0, PC + 2),
+            (0, PC + 2),
+            (0, PC + 2),
+            (0, PC + 2),
+        ],
     },
     // bne x0, x0, 2, which is not taken
     Ending {
