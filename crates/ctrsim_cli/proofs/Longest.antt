@@ -4,8 +4,8 @@ use Rattle.std.proofs.lemmas.List.{nil_from_length}
 use Rattle.std.proofs.lemmas.List.Elements.{All-head, All-tail, All-append, All-cons, All-nil}
 use Rattle.std.specs.Io.KnownBytes.{Consumes}
 use Rattle.ctr_port.specs.InHand.{Of}
-use Rattle.ctr_port.specs.Appended.{GainsPart}
-use Rattle.ctr_port.proofs.Laws.{part_after, part_of_more}
+use Rattle.ctr_port.specs.Sink.{GainsPart}
+use Rattle.ctr_port.proofs.PieceLaws.{part_after, part_of_more}
 use Rattle.perf_sample.specs.declared.sample.Sample.{Sample}
 use Rattle.perf_sample.specs.declared.faults.SampleFault.{SampleFault}
 use Rattle.perf_sample.specs.Layout.{LayoutWords}

@@ -7,7 +7,7 @@ use Rattle.std.specs.Io.KnownBytes.{Consumes}
 use Rattle.perf_sample.specs.declared.sample.Branch.{Branch}
 use Rattle.perf_sample.specs.Layout.{LayoutWords, fixed_len, FlagsFit}
 use Rattle.ctr_port.specs.InHand.{Of}
-use Rattle.ctr_port.proofs.Laws.{taken_then}
+use Rattle.ctr_port.proofs.PieceLaws.{taken_then}
 use Rattle.perf_sample.specs.Spelling.{le, branch_bytes}
 use Rattle.perf_sample.specs.Breaks.{number_at, At, first_of, branch_fields, unless}
 use Rattle.perf_sample.specs.Reading.{cut_at, Stopped}

@@ -4,7 +4,7 @@ use Rattle.std.specs.Io.KnownBytes.{Consumes, Keeps}
 use Rattle.std.proofs.lemmas.List.{length-take, length-take-le, length-drop, drop_all}
 use borrow.Rule.Slice.PartMut.{put_mid, post_of}
 use Rattle.ctr_port.specs.InHand.{Of}
-use Rattle.ctr_port.proofs.Laws.{taken_nothing, taken_then}
+use Rattle.ctr_port.proofs.PieceLaws.{taken_nothing, taken_then}
 use Rattle.perf_sample.specs.Reading.{Cause, OfRead, OfCount, OfBytes, cause_of, StoppedBy, Stopped, cut_at, IsCut}
 use Rattle.perf_sample.specs.declared.faults.SampleFault.{SampleFault}
 use Rattle.perf_sample.specs.declared.faults.SampleFault.TheVariants as fault

@@ -8,7 +8,7 @@ use Rattle.std.specs.List.{All, flat_map, AllByRecursion}
 use Rattle.perf_sample.specs.BranchRange.{IsBranch}
 use Rattle.perf_sample.specs.Range.{IsSample}
 use Rattle.perf_sample.specs.declared.faults.Place.{Place}
-use Rattle.ctr_port.proofs.Laws.{taken_then}
+use Rattle.ctr_port.proofs.PieceLaws.{taken_then}
 use Rattle.perf_sample.specs.declared.sample.Branch.{Branch}
 use Rattle.perf_sample.specs.declared.sample.Sample.{Sample}
 use Rattle.perf_sample.specs.declared.faults.SampleFault.{SampleFault}

@@ -1,7 +1,7 @@
 use Rattle.std.proofs.Common.{◌≡◌, ◌≤◌, ◌-◌, ◌∙◌, arith, rules, length, take, subst, sym}
 use Rattle.std.specs.Io.KnownBytes.{Consumes}
 use Rattle.std.proofs.lemmas.List.{length-take-le}
-use Rattle.ctr_port.proofs.Laws.{taken_then, read_more}
+use Rattle.ctr_port.proofs.PieceLaws.{taken_then, read_more}
 use Rattle.perf_sample.proofs.ReadingLaws.{taken_kept, read_room, read_length}
 use Rattle.perf_sample.proofs.fields.read_field.Goals as goal
 

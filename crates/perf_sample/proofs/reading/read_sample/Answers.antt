@@ -2,7 +2,7 @@ use Rattle.std.proofs.Common.{◌++◌, ℕ, ◌<◌, ◌^◌, [], ◌∷◌, ma
 use Rattle.std.proofs.lemmas.Result.{err_from_is_err_and}
 use Rattle.std.specs.Io.KnownBytes.{Consumes}
 use Rattle.std.specs.List.{flat_map}
-use Rattle.ctr_port.proofs.Laws.{taken_then}
+use Rattle.ctr_port.proofs.PieceLaws.{taken_then}
 use Rattle.perf_sample.specs.Layout.{before_nr, fields_in}
 use Rattle.perf_sample.specs.Spelling.{le, fields_bytes, header_bytes, branch_bytes}
 use Rattle.perf_sample.specs.Breaks.{At, branch_fields, first_of}

@@ -1,6 +1,6 @@
 use Rattle.std.proofs.Common.{◌∙◌, sym}
 use Rattle.std.proofs.lemmas.Result.{err_from_is_err_and}
-use Rattle.ctr_port.proofs.Laws.{taken_nothing}
+use Rattle.ctr_port.proofs.PieceLaws.{taken_nothing}
 use Rattle.perf_sample.proofs.RowLaws.{index_taken, index_left_out, index_stops}
 use Rattle.perf_sample.proofs.rows.read_hw_index.Goals as goal
 

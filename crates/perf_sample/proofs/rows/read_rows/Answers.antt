@@ -5,7 +5,7 @@ use Rattle.perf_sample.specs.declared.faults.Place.TheVariants as place
 use Rattle.perf_sample.specs.Layout.{before_nr, fields_in}
 use Rattle.perf_sample.specs.Spelling.{fields_bytes}
 use Rattle.perf_sample.proofs.FieldLaws.{bytes_out, in_none}
-use Rattle.ctr_port.proofs.Laws.{taken_nothing}
+use Rattle.ctr_port.proofs.PieceLaws.{taken_nothing}
 use Rattle.perf_sample.specs.declared.faults.Place.{Place}
 use Rattle.perf_sample.proofs.RowLaws.{rows_stop, row_kept, front_taken}
 use Rattle.perf_sample.proofs.rows.read_rows.Goals.{then-has+in_ok-read_row, else-has}

@@ -12,6 +12,8 @@ GivesNext old new (got.Bytes n) buf = (0 < n) × (n ≤ length buf) × Consumes 
 GivesNext old new got.End buf = IsAtEnd old × Keeps old new × IsAtEnd new
 GivesNext old new got.Failed buf = Keeps old new
 
--- a read into so much room gives a field of eight bytes, by a plan that says nothing of calls and pieces
+-- a read into so much room gives a field of eight bytes, by a plan that says nothing of calls and
+-- pieces
 abbrev pub GivesField : ℕ → List ℕ → Plan → Type 0
-GivesField room left plan = (room ≡ 8) × (8 ≤ length left) × (plan.failing ≡ []) × (plan.pieces ≡ [])
+GivesField room left plan =
+    (room ≡ 8) × (8 ≤ length left) × (plan.failing ≡ []) × (plan.pieces ≡ [])

@@ -1,19 +1,8 @@
--- What the contracts of the two ends over memory say of them.
-use Rattle.std.specs.Prelude.{◌≡◌, ℕ, ◌-◌, List, [], ◌++◌, length, take, drop}
+-- What the contracts of the sink over memory say of it.
+use Rattle.std.specs.Prelude.{◌≡◌, ℕ, ◌-◌, List, [], ◌++◌, length, take}
 use Rattle.std.proofs.Common.{sym, ◌∙◌, ap, append-nil, append_assoc}
 use Rattle.ctr_port.specs.Script.{Plan}
-use Rattle.ctr_port.specs.declared.memory_source.MemSource.{MemSource}
 use Rattle.ctr_port.specs.declared.memory_sink.MemSink.{MemSink}
-
--- the bytes that a source has left
-abbrev pub left_of : MemSource → List ℕ
-left_of s = drop s.at s.bytes.items
-
-abbrev pub source_plan : MemSource → Plan
-source_plan s = s.script
-
-abbrev pub source_faults : MemSource → ℕ
-source_faults s = s.faults
 
 -- the bytes that a sink holds
 abbrev pub held_of : MemSink → List ℕ
@@ -29,7 +18,8 @@ sink_plan s = s.script
 abbrev pub sink_faults : MemSink → ℕ
 sink_faults s = s.faults
 
--- nothing appended leaves what was held, and bytes appended one after the other are appended together
+-- nothing appended leaves what was held, and bytes appended one after the other are appended
+-- together
 pub held_nothing : (a : List ℕ) → a ≡ a ++ []
 held_nothing a = sym (append-nil a)
 

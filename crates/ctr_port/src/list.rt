@@ -1,9 +1,8 @@
-//! Lists that grow.
+//! A list that grows.
 
 ghost use Rattle.std.specs.Prelude.{◌≡◌, [], ◌∷◌, ◌++◌, OnOk, OnErr};
 
-use crate::schedule::{IrqLine, TaskLine};
-use ctr_port::NoMemory;
+use crate::ends::NoMemory;
 use std::alloc::Global;
 use std::marker::Model;
 
@@ -12,15 +11,6 @@ use std::marker::Model;
 pub struct List<T> {
     list: Vec<T>,
 }
-
-/// Task lines, in order.
-pub type TaskLines = List<TaskLine>;
-
-/// Irq lines, in order.
-pub type IrqLines = List<IrqLine>;
-
-/// The bytes of an image.
-pub type Image = List<u8>;
 
 impl<T> Model for List<T> {
     ghost use Rattle.std.specs.Prelude.{List as Items};
@@ -60,9 +50,10 @@ impl<T: Drop> List<T> {
 }
 
 impl List<u8> {
-    // Adds bytes last.
-    pub(crate) fn extend(&mut self, bytes: &[u8]) -> Result<(), NoMemory>
+    /// Adds bytes last, all of them or none.
+    pub fn extend(&mut self, bytes: &[u8]) -> Result<(), NoMemory>
         ensures ok { OnOk result (self.new ≡ self.old ++ bytes.now) }
+        ensures err { OnErr result (self.new ≡ self.old) }
     {
         self.list.extend_from_slice(bytes)?;
         Ok(())

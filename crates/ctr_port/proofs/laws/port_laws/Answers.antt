@@ -1,7 +1,7 @@
 use Rattle.std.proofs.Common.{arith}
-use Rattle.ctr_port.specs.Memory.{held_of}
-use Rattle.ctr_port.proofs.Laws.{part_apart}
-use Rattle.ctr_port.proofs.facts.port_laws.Goals as goal
+use Rattle.ctr_port.specs.MemorySink.{held_of}
+use Rattle.ctr_port.proofs.PieceLaws.{part_apart}
+use Rattle.ctr_port.proofs.laws.port_laws.Goals as goal
 
 pub returns-clause-part_is_not_whole : goal.returns-clause-part_is_not_whole
 returns-clause-part_is_not_whole c = λ old new bytes part whole. part_apart (held_of old) (held_of new) bytes part.0 part.1 part.2 whole

@@ -1,11 +1,12 @@
--- What readers and writers in pieces want of the ends: pieces joined, proper prefixes, and reads into a buffer's middle.
+-- What readers and writers in pieces want of the ends: pieces joined, proper prefixes, and reads
+-- into a buffer's middle.
 use Rattle.std.proofs.Common.{◌≡◌, ℕ, ◌+◌, ◌<◌, ◌≤◌, List, [], ◌++◌, length, take, drop, arith, sym, ◌∙◌, ap, subst, length-append, take-append-drop}
 use Rattle.std.proofs.KnownBytes.{Consumes-nil, Consumes-trans}
 use Rattle.std.proofs.Math.Seq.{take-append-add, take-add, take-append_seam}
 use Rattle.std.proofs.lemmas.List.{take-append-le, length-take-le, drop-drop}
 use Rattle.std.specs.Io.KnownBytes.{Consumes}
 use Rattle.std.specs.declared.option.Option.{Option}
-use Rattle.ctr_port.specs.Appended.{GainsPart}
+use Rattle.ctr_port.specs.Sink.{GainsPart}
 use borrow.Rule.Slice.PartMut.{put_mid, post_of}
 
 -- no byte taken leaves a source as it was
@@ -34,7 +35,8 @@ given_next xs new rest at n len e =
     ∙ ap (λ t. t ++ drop n (drop at xs)) (sym e ∙ sym (ap (λ m. take m (new ++ rest)) (sym len) ∙ take-append_seam new rest))
     ∙ ap (λ t. take n (new ++ rest) ++ t) (drop-drop n at xs)
 
--- the whole of what comes first, and a proper prefix of what follows, are a proper prefix of both together
+-- the whole of what comes first, and a proper prefix of what follows, are a proper prefix of both
+-- together
 pub part_after : {S : Type 0} (gained : S → List ℕ → S → Type 0) → ((a b c : S) (x y : List ℕ) → gained a x b → gained b y c → gained a (x ++ y) c)
     → (a b c : S) (x y : List ℕ) → gained a x b → GainsPart gained b c y → GainsPart gained a c (x ++ y)
 part_after gained joins a b c x y h p = (
