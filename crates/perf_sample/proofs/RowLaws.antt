@@ -16,10 +16,10 @@ use Rattle.perf_sample.specs.Layout.{LayoutWords, has, before_nr, all_fields, fi
 use Rattle.perf_sample.specs.Range.{IsSample}
 use Rattle.perf_sample.specs.Spelling.{le, place_bytes, fields_bytes}
 use Rattle.perf_sample.specs.Breaks.{number_at, Field, At, first_of}
-use Rattle.perf_sample.specs.Reading.{cut_at, Stopped}
-use Rattle.perf_sample.specs.Rows.{with_word, SetsOnly, SameWord, Holds, PutsIn, TakesRow, TakesHwIndex}
+use Rattle.perf_sample.specs.Reading.{sample_faults, cut_at, Stopped}
+use Rattle.perf_sample.specs.Front.{with_word, SetsOnly, SameWord, Holds, PutsIn, TakesRow, TakesHwIndex}
 use Rattle.perf_sample.proofs.BreakLaws.{cut_first, stops, early, length_le, number_behind}
-use Rattle.perf_sample.proofs.ReadingLaws.{stopped_after, stopped_as, of_taken}
+use Rattle.perf_sample.proofs.ReadingLaws.{stops_after, stops_as, of_taken}
 use Rattle.perf_sample.proofs.FieldLaws.{SameBut, IsRight, fields_pass, same_bytes, bytes_there, in_there, in_left_out, in_split, left_out_kept, widths_kept}
 
 abbrev none : Place
@@ -102,7 +102,7 @@ rows_stop a b c layout n s f within on took h size =
     let front = fields_in layout (take n before_nr) in
     let behind = map At (fields_in layout (drop (n + 1) before_nr)) in
     let here = At (field_at n) ∷ [] in
-    stopped_after a b c (fields_bytes s front) (first_of layout size here) (first_of layout size (map At (fields_in layout before_nr))) f took
+    stops_after sample_faults a b c (fields_bytes s front) (first_of layout size here) (first_of layout size (map At (fields_in layout before_nr))) f took
     (λ z r e.
     ap (λ (l : List Place). first_of layout size (map At l) (fields_bytes s front ++ z)) (in_split layout before_nr n none within on)
     ∙ ap (λ (l : List Field). first_of layout size l (fields_bytes s front ++ z)) (map-append At front (field_at n ∷ fields_in layout (drop (n + 1) before_nr)))
@@ -114,7 +114,7 @@ rows_stop a b c layout n s f within on took h size =
 pub row_cut : (a b : Option (List ℕ)) (p : Place) (f : SampleFault) → Stopped (cut_at (At p)) a b f
     → (layout : LayoutWords) (size : ℕ) → Stopped (first_of layout size (At p ∷ [])) a b f
 row_cut a b p f h layout size =
-    stopped_as a b (cut_at (At p)) (first_of layout size (At p ∷ [])) f (λ z r e. cut_first layout size (At p) [] z r e) h
+    stops_as sample_faults a b (cut_at (At p)) (first_of layout size (At p ∷ [])) f (λ z r e. cut_first layout size (At p) [] z r e) h
 
 two_halves : (m n : ℕ) → length (le 4 m ++ le 4 n) ≡ 8
 two_halves m n = omega (arith, length-append (le 4 m) (le 4 n), length_le 4 m, length_le 4 n)

@@ -58,9 +58,13 @@ before_nr =
     place.Identifier ∷ place.Ip ∷ place.Tid ∷ place.Time ∷ place.Addr ∷ place.Id
     ∷ place.StreamId ∷ place.Cpu ∷ place.Period ∷ []
 
+-- those from it on, before the branches
+abbrev pub from_nr : List Place
+from_nr = place.Nr ∷ place.HwIndex ∷ []
+
 -- the fields between the header and the branches, in their order
 abbrev pub all_fields : List Place
-all_fields = before_nr ++ (place.Nr ∷ place.HwIndex ∷ [])
+all_fields = before_nr ++ from_nr
 
 -- those of some fields that a layout has
 unfoldable pub fields_in : LayoutWords → List Place → List Place

@@ -4,6 +4,7 @@ use Rattle.std.specs.List.{flat_map}
 use Rattle.byteorder.specs.Endian.{little_bytes}
 use Rattle.perf_sample.specs.declared.faults.Place.{Place}
 use Rattle.perf_sample.specs.declared.flags.TheConstants.{BRANCH_SIZE, PERF_RECORD_SAMPLE}
+use Rattle.perf_sample.specs.declared.limits.TheConstants.{MAX_BRANCHES}
 use Rattle.perf_sample.specs.declared.sample.Branch.{Branch}
 use Rattle.perf_sample.specs.declared.sample.Sample.{Sample}
 use Rattle.perf_sample.specs.declared.words.Word.{Word}
@@ -49,5 +50,5 @@ spelling layout s =
 -- these bytes are the sample in this layout
 pub record Spells (layout : LayoutWords) (s : Sample) (bytes : List ℕ) : Type 0 where
   pub fits : Fits layout s
-  pub few : length s.branches ≤ 256
+  pub few : length s.branches ≤ MAX_BRANCHES
   pub bytes_are : bytes ≡ spelling layout s

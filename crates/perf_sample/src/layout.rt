@@ -7,6 +7,7 @@ ghost use Rattle.perf_sample.specs.Breaks.{is_size};
 
 use crate::faults::Place;
 use crate::flags::{BRANCH_SIZE, FIRST_RESERVED, HW_INDEX};
+use crate::limits::{FIELD_SIZE, MAX_FIXED_LEN, MAX_STACK_SIZE};
 use crate::sample::{Branch, Sample};
 use crate::words::word_of;
 use std::marker::Model;
@@ -142,23 +143,23 @@ impl Layout {
     /// between it and the branches.
     pub fn fixed_len(self) -> u16
         ensures len { result ≡ fixed_len self }
-        ensures most { result ≤ 96 }
+        ensures most { result ≤ MAX_FIXED_LEN }
     {
-        let mut len = 8;
+        let mut len = FIELD_SIZE;
         for place in ALL_FIELDS {
             if self.has(place) {
-                len += 8;
+                len += FIELD_SIZE;
             }
         }
         len
     }
 
-    // Whether a sample may have this size, by how many branches it has.
-    pub(crate) fn is_size(self, size: u16) -> bool
+    /// Whether a sample may have this size, by how many branches it has.
+    pub fn is_size(self, size: u16) -> bool
         ensures { result ≡ is_size self size }
     {
         let fixed = self.fixed_len();
-        size >= fixed && size <= fixed + BRANCH_SIZE * 256 && (size - fixed) % BRANCH_SIZE == 0
+        size >= fixed && size <= fixed + MAX_STACK_SIZE && (size - fixed) % BRANCH_SIZE == 0
     }
 
     // Whether a field has a value that the layout lets it have: any where it is there, 0 where it

@@ -5,7 +5,7 @@ ghost use Rattle.perf_sample.specs.Reading.{is_read};
 ghost use Rattle.ctr_port.specs.Counts.{HasCause};
 ghost use Rattle.perf_sample.specs.Layout.{has, Fits};
 ghost use Rattle.perf_sample.specs.Range.{IsSample};
-ghost use Rattle.perf_sample.specs.Rows.{PutsIn, TakesRow, TakesRows, TakesHwIndex};
+ghost use Rattle.perf_sample.specs.Front.{PutsIn, TakesRow, TakesFront, TakesHwIndex};
 
 use crate::branch::read_place;
 use crate::faults::{Place, SampleFault};
@@ -58,14 +58,15 @@ fn read_row<S: Source>(source: &mut S, place: Place, sample: &mut Sample) -> Res
     put_in(sample, place, &bytes)
 }
 
-/// Reads the fields before the number of branches into a sample that has none of them yet.
-pub(crate) fn read_rows<S: Source>(
+/// Reads the fields before the number of branches into a sample that has none of them yet, each
+/// where the layout has it.
+pub fn read_front<S: Source>(
     source: &mut S,
     layout: Layout,
     sample: &mut Sample,
 ) -> Result<(), SampleFault>
     requires { Fits layout sample.old }
-    ensures takes { TakesRows layout (S.left source.old) (S.left source.new) sample.old sample.new
+    ensures takes { TakesFront layout (S.left source.old) (S.left source.new) sample.old sample.new
         result }
     ensures range { IsSample sample.old → IsSample sample.new }
     ensures cause { HasCause is_read (S.faults source.old) (S.faults source.new) result }

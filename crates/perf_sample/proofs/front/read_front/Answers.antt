@@ -8,8 +8,8 @@ use Rattle.perf_sample.proofs.FieldLaws.{bytes_out, in_none}
 use Rattle.ctr_port.proofs.PieceLaws.{taken_nothing}
 use Rattle.perf_sample.specs.declared.faults.Place.{Place}
 use Rattle.perf_sample.proofs.RowLaws.{rows_stop, row_kept, front_taken}
-use Rattle.perf_sample.proofs.rows.read_rows.Goals.{then-has+in_ok-read_row, else-has}
-use Rattle.perf_sample.proofs.rows.read_rows.Goals as goal
+use Rattle.perf_sample.proofs.front.read_front.Goals.{then-has+in_ok-read_row, else-has}
+use Rattle.perf_sample.proofs.front.read_front.Goals as goal
 
 pub returns-in_err-read_row-clause-takes : goal.returns-in_err-read_row-clause-takes
 returns-in_err-read_row-clause-takes g c =

@@ -2,7 +2,7 @@ use Rattle.std.proofs.Common.{◌∙◌, sym}
 use Rattle.std.proofs.lemmas.Result.{err_from_is_err_and}
 use Rattle.ctr_port.proofs.PieceLaws.{taken_nothing}
 use Rattle.perf_sample.proofs.RowLaws.{index_taken, index_left_out, index_stops}
-use Rattle.perf_sample.proofs.rows.read_hw_index.Goals as goal
+use Rattle.perf_sample.proofs.front.read_hw_index.Goals as goal
 
 pub returns-in_err-read_row-clause-takes : goal.returns-in_err-read_row-clause-takes
 returns-in_err-read_row-clause-takes g c =

@@ -3,7 +3,7 @@ use Rattle.std.specs.Io.KnownBytes.{Consumes}
 use Rattle.perf_sample.specs.Layout.{before_nr, fields_in, Fits}
 use Rattle.perf_sample.specs.Spelling.{fields_bytes}
 use Rattle.perf_sample.specs.Range.{IsSample}
-use Rattle.perf_sample.proofs.rows.read_rows.Given as goal
+use Rattle.perf_sample.proofs.front.read_front.Given as goal
 
 abbrev pub invariant-loop-place : goal.invariant-loop-place
 invariant-loop-place g l = record {

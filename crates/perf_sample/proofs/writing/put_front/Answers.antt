@@ -4,12 +4,12 @@ use Rattle.arrayvec.specs.ArrayVec.{array_vec_len}
 use Rattle.perf_sample.specs.declared.faults.Place.{Place}
 use Rattle.perf_sample.specs.declared.faults.Place.TheVariants as place
 use Rattle.perf_sample.specs.Words.{word_of, InWidth}
-use Rattle.perf_sample.specs.Layout.{all_fields, fields_in, fixed_len}
+use Rattle.perf_sample.specs.Layout.{before_nr, fields_in, fixed_len}
 use Rattle.perf_sample.specs.Spelling.{word_bytes, fields_bytes}
 use Rattle.perf_sample.specs.declared.words.Word.{Word}
 use Rattle.perf_sample.proofs.FieldLaws.{in_none, length_there, in_more_out, bytes_there, bytes_out}
-use Rattle.perf_sample.proofs.writing.put_fields.Goals.{then-has, else-has}
-use Rattle.perf_sample.proofs.writing.put_fields.Goals as goal
+use Rattle.perf_sample.proofs.writing.put_front.Goals.{then-has, else-has}
+use Rattle.perf_sample.proofs.writing.put_front.Goals as goal
 
 pub loop-place-init : goal.loop-place-init
 loop-place-init c =
@@ -30,19 +30,19 @@ loop-place-preserved c =
     let layout = c.args.layout in
     let s = c.args.sample.now in
     let n = c.loop-place.place-index in
-    let wide = All-more (λ p. InWidth (word_of p s)) all_fields n place.Identifier c.loop-place-test.true done.range c.word_of-word.ensures.range in
+    let wide = All-more (λ p. InWidth (word_of p s)) before_nr n place.Identifier c.loop-place-test.true done.range c.word_of-word.ensures.range in
     elim c.if-has.branch [
       | then-has w ↦
           let on = sym c.has.ensures ∙ w.if-has.true in
-          let more = length_there layout all_fields n place.Identifier c.loop-place-test.true on in
-          let bytes = bytes_there layout s all_fields n place.Identifier c.loop-place-test.true on in
+          let more = length_there layout before_nr n place.Identifier c.loop-place-test.true on in
+          let bytes = bytes_there layout s before_nr n place.Identifier c.loop-place-test.true on in
           rw w.out-is (record {
             items = refl;
             bytes =
                 w.put_word.ensures.items
                 ∙ ap (λ (l : List ℕ). l ++ word_bytes c.word_of-word.result) done.bytes
-                ∙ append_assoc c.args.out.now.items (fields_bytes s (fields_in layout (take n all_fields))) (word_bytes c.word_of-word.result)
-                ∙ ap (λ (v : Word). c.args.out.now.items ++ (fields_bytes s (fields_in layout (take n all_fields)) ++ word_bytes v)) c.word_of-word.ensures.word
+                ∙ append_assoc c.args.out.now.items (fields_bytes s (fields_in layout (take n before_nr))) (word_bytes c.word_of-word.result)
+                ∙ ap (λ (v : Word). c.args.out.now.items ++ (fields_bytes s (fields_in layout (take n before_nr)) ++ word_bytes v)) c.word_of-word.ensures.word
                 ∙ ap (λ (l : List ℕ). c.args.out.now.items ++ l) (sym bytes);
             len = omega (arith, done.len, more, w.put_word.ensures.len);
             most = omega (arith, done.most, w.put_word.ensures.len);
@@ -50,8 +50,8 @@ loop-place-preserved c =
           })
       | else-has w ↦
           let off = sym c.has.ensures ∙ w.if-has.false in
-          let same = in_more_out layout all_fields n place.Identifier c.loop-place-test.true off in
-          let bytes = bytes_out layout s all_fields n place.Identifier c.loop-place-test.true off in
+          let same = in_more_out layout before_nr n place.Identifier c.loop-place-test.true off in
+          let bytes = bytes_out layout s before_nr n place.Identifier c.loop-place-test.true off in
           rw w.out-is (record {
             items = refl;
             bytes = done.bytes ∙ ap (λ (l : List ℕ). c.args.out.now.items ++ l) (sym bytes);
@@ -61,15 +61,12 @@ loop-place-preserved c =
           })
     ]
 
-pub returns-clause-len : goal.returns-clause-len
-unfolding fixed_len
-returns-clause-len c =
-    let all : c.loop-place.place-index ≡ 11 = omega (arith, c.loop-place-test.false, c.loop-place.auto.place-index-end) in
-    let len = subst (λ (n : ℕ). array_vec_len c.loop-place.out ≡ array_vec_len c.args.out.now + 8 * length (fields_in c.args.layout (take n all_fields))) all c.loop-place.invariant.len in
-    omega (arith, len)
+pub returns-clause-items : goal.returns-clause-items
+returns-clause-items c =
+    let all : c.loop-place.place-index ≡ 9 = omega (arith, c.loop-place-test.false, c.loop-place.auto.place-index-end) in
+    subst (λ (n : ℕ). c.loop-place.out.items ≡ c.args.out.now.items ++ fields_bytes c.args.sample.now (fields_in c.args.layout (take n before_nr))) all c.loop-place.invariant.bytes
 
 pub returns-clause-range : goal.returns-clause-range
-returns-clause-range c = λ misc branches.
-    let all : c.loop-place.place-index ≡ 11 = omega (arith, c.loop-place-test.false, c.loop-place.auto.place-index-end) in
-    let wide = subst (λ (n : ℕ). All (λ p. InWidth (word_of p c.args.sample.now)) (take n all_fields)) all c.loop-place.invariant.range in
-    record { misc = misc; fields = recursion_from_All (λ p. InWidth (word_of p c.args.sample.now)) all_fields wide; branches = branches }
+returns-clause-range c =
+    let all : c.loop-place.place-index ≡ 9 = omega (arith, c.loop-place-test.false, c.loop-place.auto.place-index-end) in
+    subst (λ (n : ℕ). All (λ p. InWidth (word_of p c.args.sample.now)) (take n before_nr)) all c.loop-place.invariant.range

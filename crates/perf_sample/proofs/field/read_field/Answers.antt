@@ -3,7 +3,7 @@ use Rattle.std.specs.Io.KnownBytes.{Consumes}
 use Rattle.std.proofs.lemmas.List.{length-take-le}
 use Rattle.ctr_port.proofs.PieceLaws.{taken_then, read_more}
 use Rattle.perf_sample.proofs.ReadingLaws.{taken_kept, read_room, read_length}
-use Rattle.perf_sample.proofs.fields.read_field.Goals as goal
+use Rattle.perf_sample.proofs.field.read_field.Goals as goal
 
 pub loop-at-preserved : goal.loop-at-preserved
 loop-at-preserved g c =

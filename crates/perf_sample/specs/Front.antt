@@ -1,4 +1,5 @@
--- What reading the fields between the header and the branches does to the sample.
+-- What reading the fields between the header and the branches does to the sample, and the part of
+-- a sample before the number of branches, for records that hold something more behind it.
 use Rattle.std.specs.Prelude.{◌≡◌, ℕ, ◌<◌, ◌^◌, List, [], ◌∷◌, ◌++◌, map, Option, Result, Ok, Err}
 use Rattle.std.specs.Io.KnownBytes.{Consumes}
 use Rattle.std.specs.List.{AllByRecursion}
@@ -13,6 +14,7 @@ use Rattle.perf_sample.specs.Words.{word_of}
 use Rattle.perf_sample.specs.Layout.{LayoutWords, before_nr, fields_in, Fits}
 use Rattle.perf_sample.specs.Spelling.{le, place_bytes, fields_bytes}
 use Rattle.perf_sample.specs.Breaks.{At, first_of}
+use Rattle.perf_sample.specs.Format.{Break}
 use Rattle.perf_sample.specs.Reading.{Stopped}
 
 -- the number of a word, or its lower half; and its upper half
@@ -63,6 +65,14 @@ PutsIn p bytes old new (Err f) =
     × (reserved ≡ 0 → ⊥)
     × (reserved < 2 ^ 32)
 
+-- the fields before the number of branches
+abbrev pub front_bytes : LayoutWords → Sample → List ℕ
+front_bytes layout s = fields_bytes s (fields_in layout before_nr)
+
+-- the first of them that is broken, in the bytes that begin with them; none looks at the size
+abbrev pub front_break : LayoutWords → List ℕ → Break SampleFault
+front_break layout bytes = first_of layout 0 (map At (fields_in layout before_nr)) bytes
+
 -- a field was taken
 abbrev pub TakesRow : Place → Option (List ℕ) → Option (List ℕ) → Sample → Sample
     → Result (Unit {0}) SampleFault → Type 0
@@ -73,14 +83,14 @@ TakesRow p left left' old new (Err f) =
 
 -- the fields before the number of branches that the layout has were taken, and nothing else of the
 -- sample changed
-abbrev pub TakesRows : LayoutWords → Option (List ℕ) → Option (List ℕ) → Sample → Sample
+abbrev pub TakesFront : LayoutWords → Option (List ℕ) → Option (List ℕ) → Sample → Sample
     → Result (Unit {0}) SampleFault → Type 0
-TakesRows layout left left' old new (Ok _) =
-    Consumes left left' (fields_bytes new (fields_in layout before_nr))
+TakesFront layout left left' old new (Ok _) =
+    Consumes left left' (front_bytes layout new)
     × Fits layout new
     × (new.misc ≡ old.misc)
     × (new.branches ≡ old.branches)
-TakesRows layout left left' old new (Err f) =
+TakesFront layout left left' old new (Err f) =
     (size : ℕ) → Stopped (first_of layout size (map At (fields_in layout before_nr))) left left' f
 
 -- two samples have the same word in a field

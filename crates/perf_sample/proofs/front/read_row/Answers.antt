@@ -1,6 +1,6 @@
 use Rattle.std.proofs.lemmas.Result.{err_from_is_err_and}
 use Rattle.perf_sample.proofs.RowLaws.{row_cut, row_put}
-use Rattle.perf_sample.proofs.rows.read_row.Goals as goal
+use Rattle.perf_sample.proofs.front.read_row.Goals as goal
 
 pub returns-in_err-bytes-clause-takes : goal.returns-in_err-bytes-clause-takes
 returns-in_err-bytes-clause-takes g c =
