@@ -9,7 +9,7 @@ use Rattle.perf_sample.specs.declared.sample.Sample.{Sample}
 use Rattle.perf_sample.specs.declared.faults.SampleFault.{SampleFault}
 use Rattle.perf_sample.specs.Layout.{LayoutWords}
 use Rattle.perf_sample.specs.Spelling.{spelling, Spells}
-use Rattle.perf_sample.specs.Range.{IsSample}
+use Rattle.perf_sample.specs.Sample.{IsSample}
 use Rattle.perf_sample.specs.declared.limits.TheConstants.{MAX_SAMPLES}
 use Rattle.perf_sample.specs.Reader.{Refuses}
 use Rattle.perf_sample.specs.Format.{Cause, OfRead, OfCount, OfBytes}

@@ -5,12 +5,14 @@ use Rattle.std.proofs.lemmas.Grind.{flat_map-append}
 use Rattle.std.proofs.lemmas.List.{take_more}
 use Rattle.std.specs.List.{AllByRecursion}
 use Rattle.perf_sample.specs.declared.sample.Sample.{Sample}
-use Rattle.perf_sample.specs.declared.words.Word.{Word}
-use Rattle.perf_sample.specs.declared.words.Word.TheVariants as word
+use Rattle.perf_sample.specs.declared.word.Word.{Word}
+use Rattle.perf_sample.specs.declared.word.Word.TheVariants as word
 use Rattle.perf_sample.specs.declared.faults.Place.{Place}
 use Rattle.perf_sample.specs.declared.faults.Place.TheVariants as place
-use Rattle.perf_sample.specs.Words.{word_of, IsZero, InWidth}
-use Rattle.perf_sample.specs.Layout.{LayoutWords, has, before_nr, all_fields, fields_in, LeftOut}
+use Rattle.perf_sample.specs.Word.{IsZero, InWidth}
+use Rattle.perf_sample.specs.Fields.{word_of}
+use Rattle.perf_sample.specs.Layout.{LayoutWords, has, fields_in, LeftOut}
+use Rattle.perf_sample.specs.Fields.{before_nr, all_fields}
 use Rattle.perf_sample.specs.Spelling.{le, word_bytes, place_bytes, fields_bytes}
 use Rattle.perf_sample.specs.Breaks.{Field, At, wrong_in, first_of}
 use Rattle.perf_sample.specs.Front.{SameWord}

@@ -5,7 +5,8 @@ use Rattle.std.proofs.lemmas.List.{drop_all}
 use Rattle.std.specs.Io.KnownBytes.{Consumes, IsAtEnd}
 use Rattle.ctr_port.specs.InHand.{Of}
 use Rattle.ctr_port.proofs.InHand.{of_map}
-use Rattle.perf_sample.specs.Layout.{LayoutWords, all_fields, fields_in, nr_at}
+use Rattle.perf_sample.specs.Layout.{LayoutWords, fields_in, nr_at}
+use Rattle.perf_sample.specs.Fields.{all_fields}
 use Rattle.perf_sample.specs.Spelling.{le, header_bytes}
 use Rattle.perf_sample.specs.Breaks.{number_at, is_size, Header, At, branch_fields, fields_of, fault_in, header_break, or_on, first_of, first_break, unless}
 use Rattle.perf_sample.specs.Format.{Cause, OfRead, OfCount, OfBytes, Break, BreaksBy, IsPartial, BrokeBy, Broke}

@@ -1,13 +1,15 @@
 -- Bytes begin with the spelling of one sample at most, and then they have no break.
-use Rattle.std.proofs.Common.{◌≡◌, ℕ, ◌+◌, ◌*◌, ◌-◌, ◌%◌, ◌^◌, ◌<◌, ◌≤◌, List, [], ◌∷◌, ◌++◌, length, take, drop, Bool, true, false, if◌then◌else◌, nat_le, nat_eq, None, refl, sym, ap, ◌∙◌, arith, append_assoc, length-append}
+use Rattle.std.proofs.Common.{rules, ◌≡◌, ℕ, ◌+◌, ◌*◌, ◌-◌, ◌%◌, ◌^◌, ◌<◌, ◌≤◌, List, [], ◌∷◌, ◌++◌, length, take, drop, Bool, true, false, if◌then◌else◌, nat_le, nat_eq, None, refl, sym, ap, ◌∙◌, arith, append_assoc, length-append}
 use Rattle.std.proofs.Math.Seq.{take-append_seam, drop-append_seam}
 use Rattle.std.proofs.lemmas.Bool.{le-leb, eq-eqb, true≢false}
 use Rattle.std.proofs.lemmas.List.Elements.{All-head, All-tail}
 use Rattle.std.specs.List.{All, AllByRecursion, flat_map}
 use Rattle.perf_sample.specs.declared.sample.Branch.{Branch}
 use Rattle.perf_sample.specs.declared.sample.Sample.{Sample}
-use Rattle.perf_sample.specs.Layout.{LayoutWords, has, all_fields, fields_in, fixed_len, LeftOut, Fits}
-use Rattle.perf_sample.specs.Words.{word_of, IsZero, InWidth}
+use Rattle.perf_sample.specs.Layout.{LayoutWords, has, fields_in, fixed_len, LeftOut, Fits}
+use Rattle.perf_sample.specs.Fields.{all_fields}
+use Rattle.perf_sample.specs.Word.{IsZero, InWidth}
+use Rattle.perf_sample.specs.Fields.{word_of}
 use Rattle.perf_sample.specs.Spelling.{le, word_bytes, place_bytes, fields_bytes, header_bytes, branch_bytes, size_of, spelling, Spells}
 use Rattle.perf_sample.specs.Breaks.{number_at, is_size, first_break}
 use Rattle.perf_sample.specs.Format.{OfRead, OfCount}
@@ -16,10 +18,11 @@ use Rattle.perf_sample.specs.declared.faults.SampleFault.{SampleFault}
 use Rattle.perf_sample.specs.declared.faults.SampleFault.TheVariants as fault
 use Rattle.perf_sample.proofs.ExactLaws.{IsExact}
 use Rattle.perf_sample.specs.BranchRange.{IsBranch}
-use Rattle.perf_sample.specs.Range.{IsSample}
-use Rattle.perf_sample.specs.Front.{low_of, high_of, SameWord}
-use Rattle.perf_sample.specs.declared.words.Word.{Word}
-use Rattle.perf_sample.specs.declared.words.Word.TheVariants as word
+use Rattle.perf_sample.specs.Sample.{IsSample}
+use Rattle.perf_sample.specs.Front.{SameWord}
+use Rattle.perf_sample.specs.Fields.{low_of, high_of}
+use Rattle.perf_sample.specs.declared.word.Word.{Word}
+use Rattle.perf_sample.specs.declared.word.Word.TheVariants as word
 use Rattle.perf_sample.specs.declared.faults.Place.{Place}
 use Rattle.perf_sample.proofs.BreakLaws.{length_le, number_read}
 use Rattle.perf_sample.specs.Back.{back_bytes}
@@ -196,7 +199,7 @@ spelling_same layout s t f g is it few less e =
     let second = cut_back h_s h_t (fields_bytes s all) (fields_bytes t all) (length_fields s all ∙ sym (length_fields t all)) last.0 in
     let first = cut_back (le 4 9 ++ le 2 s.misc) (le 4 9 ++ le 2 t.misc) (le 2 size) (le 2 other) (length_le 2 size ∙ sym (length_le 2 other)) second.0 in
     let misc = cut_front (le 4 9) (le 4 9) (le 2 s.misc) (le 2 t.misc) refl first.0 in
-    let forms : AllByRecursion (SameForm s t) all_fields = (refl, (refl, (refl, (refl, (refl, (refl, (refl, (refl, (refl, (refl, (refl, tt))))))))))) in
+    let forms : AllByRecursion (SameForm s t) all_fields = search rules in
     sample_same s t (le_same 2 s.misc t.misc is.misc it.misc misc.1) (words_same layout s t all_fields forms f.left_out g.left_out is.fields it.fields second.1)
     (branches_same s.branches t.branches counts is.branches it.branches last.1)
 

@@ -1,12 +1,12 @@
 -- The parts of a sample that are read one by one: what was taken, and how reading stops.
-use Rattle.std.proofs.Common.{◌≡◌, ◌≢◌, ℕ, ◌+◌, ◌*◌, ◌^◌, ◌<◌, ◌≤◌, List, [], ◌∷◌, ◌++◌, map, length, Bool, true, false, nat_eq, Option, Some, None, Ok, refl, sym, ap, ◌∙◌, arith, subst, append_assoc, append-nil, length-append, lt-ltb, le-leb}
+use Rattle.std.proofs.Common.{rules, ◌≡◌, ◌≢◌, ℕ, ◌+◌, ◌*◌, ◌^◌, ◌<◌, ◌≤◌, List, [], ◌∷◌, ◌++◌, map, length, Bool, true, false, nat_eq, Option, Some, None, Ok, refl, sym, ap, ◌∙◌, arith, subst, append_assoc, append-nil, length-append, lt-ltb, le-leb}
 use Rattle.std.proofs.lemmas.Bool.{ne_eqb, eq-eqb}
 use Rattle.std.proofs.lemmas.List.{drop_all}
 use Rattle.std.proofs.lemmas.Grind.{flat_map-append}
 use Rattle.std.proofs.lemmas.List.{map-append}
 use Rattle.std.specs.List.{All, AllByRecursion, flat_map}
 use Rattle.perf_sample.specs.BranchRange.{IsBranch}
-use Rattle.perf_sample.specs.Range.{IsSample}
+use Rattle.perf_sample.specs.Sample.{IsSample}
 use Rattle.std.specs.Io.KnownBytes.{Consumes, IsAtEnd}
 use Rattle.ctr_port.specs.InHand.{Of}
 use Rattle.ctr_port.proofs.PieceLaws.{taken_then}
@@ -16,7 +16,8 @@ use Rattle.perf_sample.specs.declared.faults.SampleFault.{SampleFault}
 use Rattle.perf_sample.specs.declared.faults.SampleFault.TheVariants as fault
 use Rattle.perf_sample.specs.declared.faults.Place.{Place}
 use Rattle.perf_sample.specs.declared.faults.Place.TheVariants as place
-use Rattle.perf_sample.specs.Layout.{LayoutWords, before_nr, all_fields, fields_in, fixed_len, nr_at, FlagsFit, Fits}
+use Rattle.perf_sample.specs.Layout.{LayoutWords, fields_in, fixed_len, nr_at, FlagsFit, Fits}
+use Rattle.perf_sample.specs.Fields.{before_nr, all_fields}
 use Rattle.perf_sample.specs.Spelling.{le, place_bytes, fields_bytes, header_bytes, branch_bytes, size_of, spelling}
 use Rattle.perf_sample.specs.Breaks.{number_at, Field, Header, At, cut_in, wrong_header, unless, header_break, first_of, branch_fields}
 use Rattle.perf_sample.specs.Reading.{sample_faults, Stopped}
@@ -57,7 +58,7 @@ fields_parts layout s =
 pub with_branches : (layout : LayoutWords) (s : Sample) (bs : List Branch) → Fits layout s → FlagsFit bs → Fits layout (record s { branches = bs })
 with_branches layout s bs f fit =
     let l = f.left_out in record {
-      left_out = (l.0, (l.1.0, (l.1.1.0, (l.1.1.1.0, (l.1.1.1.1.0, (l.1.1.1.1.1.0, (l.1.1.1.1.1.1.0, (l.1.1.1.1.1.1.1.0, (l.1.1.1.1.1.1.1.1.0, (λ off. absurd cc, (l.1.1.1.1.1.1.1.1.1.1.0, tt)))))))))));
+      left_out = search rules;
       flags = fit;
     }
 
@@ -65,7 +66,7 @@ pub range_with : (s : Sample) (bs : List Branch) → IsSample s → All IsBranch
 range_with s bs is are few =
     let l = is.fields in record {
       misc = is.misc;
-      fields = (l.0, (l.1.0, (l.1.1.0, (l.1.1.1.0, (l.1.1.1.1.0, (l.1.1.1.1.1.0, (l.1.1.1.1.1.1.0, (l.1.1.1.1.1.1.1.0, (l.1.1.1.1.1.1.1.1.0, (omega (arith, few), (l.1.1.1.1.1.1.1.1.1.1.0, tt)))))))))));
+      fields = search rules;
       branches = are;
     }
 

@@ -1,23 +1,26 @@
 -- The fields between the header and the branches, read one by one.
-use Rattle.std.proofs.Common.{◌≡◌, ℕ, zero, suc, ◌+◌, ◌^◌, ◌<◌, List, [], ◌∷◌, ◌++◌, map, length, take, drop, get_or, Option, Some, Result, Ok, Err, refl, sym, ap, ◌∙◌, subst, arith, inl, inr, append_assoc, append-nil, length-append, true, false}
+use Rattle.std.proofs.Common.{rules, ◌≡◌, ℕ, zero, suc, ◌+◌, ◌^◌, ◌<◌, List, [], ◌∷◌, ◌++◌, map, length, take, drop, get_or, Option, Some, Result, Ok, Err, refl, sym, ap, ◌∙◌, subst, arith, inl, inr, append_assoc, append-nil, length-append, true, false}
 use Rattle.std.proofs.lemmas.Bool.{ne_eqb}
 use Rattle.std.proofs.lemmas.List.{map-append}
 use Rattle.std.specs.Io.KnownBytes.{Consumes}
 use Rattle.std.specs.List.{AllByRecursion}
 use Rattle.ctr_port.proofs.PieceLaws.{taken_then}
 use Rattle.perf_sample.specs.declared.sample.Sample.{Sample}
-use Rattle.perf_sample.specs.declared.words.Word.{Word}
+use Rattle.perf_sample.specs.declared.word.Word.{Word}
 use Rattle.perf_sample.specs.declared.faults.Place.{Place}
 use Rattle.perf_sample.specs.declared.faults.Place.TheVariants as place
 use Rattle.perf_sample.specs.declared.faults.SampleFault.{SampleFault}
 use Rattle.perf_sample.specs.declared.faults.SampleFault.TheVariants as fault
-use Rattle.perf_sample.specs.Words.{word_of, InWidth}
-use Rattle.perf_sample.specs.Layout.{LayoutWords, has, before_nr, all_fields, fields_in, Fits}
-use Rattle.perf_sample.specs.Range.{IsSample}
+use Rattle.perf_sample.specs.Word.{InWidth}
+use Rattle.perf_sample.specs.Fields.{word_of}
+use Rattle.perf_sample.specs.Layout.{LayoutWords, has, fields_in, Fits}
+use Rattle.perf_sample.specs.Fields.{before_nr, all_fields}
+use Rattle.perf_sample.specs.Sample.{IsSample}
 use Rattle.perf_sample.specs.Spelling.{le, place_bytes, fields_bytes}
 use Rattle.perf_sample.specs.Breaks.{number_at, Field, At, first_of}
 use Rattle.perf_sample.specs.Reading.{sample_faults, cut_at, Stopped}
-use Rattle.perf_sample.specs.Front.{with_word, SetsOnly, SameWord, Holds, PutsIn, TakesRow, TakesHwIndex}
+use Rattle.perf_sample.specs.Front.{SetsOnly, SameWord, Holds, PutsIn, TakesRow, TakesHwIndex}
+use Rattle.perf_sample.specs.Fields.{with_word}
 use Rattle.perf_sample.proofs.BreakLaws.{cut_first, stops, early, length_le, number_behind}
 use Rattle.perf_sample.proofs.ReadingLaws.{stops_after, stops_as, of_taken}
 use Rattle.perf_sample.proofs.FieldLaws.{SameBut, IsRight, fields_pass, same_bytes, bytes_there, in_there, in_left_out, in_split, left_out_kept, widths_kept}
@@ -37,15 +40,15 @@ record SetKept (n : ℕ) (p : Place) (old new : Sample) : Type 0 where
   branches : new.branches ≡ old.branches
 
 set_kept : (n : ℕ) (w : Word) (s : Sample) → n < 9 → SetKept n (field_at n) s (with_word (field_at n) w s)
-set_kept zero w s within = record { before = tt; others = (inl refl, (inr refl, (inr refl, (inr refl, (inr refl, (inr refl, (inr refl, (inr refl, (inr refl, (inr refl, (inr refl, tt))))))))))); misc = refl; branches = refl }
-set_kept (suc zero) w s within = record { before = (refl, tt); others = (inr refl, (inl refl, (inr refl, (inr refl, (inr refl, (inr refl, (inr refl, (inr refl, (inr refl, (inr refl, (inr refl, tt))))))))))); misc = refl; branches = refl }
-set_kept (suc (suc zero)) w s within = record { before = (refl, (refl, tt)); others = (inr refl, (inr refl, (inl refl, (inr refl, (inr refl, (inr refl, (inr refl, (inr refl, (inr refl, (inr refl, (inr refl, tt))))))))))); misc = refl; branches = refl }
-set_kept (suc (suc (suc zero))) w s within = record { before = (refl, (refl, (refl, tt))); others = (inr refl, (inr refl, (inr refl, (inl refl, (inr refl, (inr refl, (inr refl, (inr refl, (inr refl, (inr refl, (inr refl, tt))))))))))); misc = refl; branches = refl }
-set_kept (suc (suc (suc (suc zero)))) w s within = record { before = (refl, (refl, (refl, (refl, tt)))); others = (inr refl, (inr refl, (inr refl, (inr refl, (inl refl, (inr refl, (inr refl, (inr refl, (inr refl, (inr refl, (inr refl, tt))))))))))); misc = refl; branches = refl }
-set_kept (suc (suc (suc (suc (suc zero))))) w s within = record { before = (refl, (refl, (refl, (refl, (refl, tt))))); others = (inr refl, (inr refl, (inr refl, (inr refl, (inr refl, (inl refl, (inr refl, (inr refl, (inr refl, (inr refl, (inr refl, tt))))))))))); misc = refl; branches = refl }
-set_kept (suc (suc (suc (suc (suc (suc zero)))))) w s within = record { before = (refl, (refl, (refl, (refl, (refl, (refl, tt)))))); others = (inr refl, (inr refl, (inr refl, (inr refl, (inr refl, (inr refl, (inl refl, (inr refl, (inr refl, (inr refl, (inr refl, tt))))))))))); misc = refl; branches = refl }
-set_kept (suc (suc (suc (suc (suc (suc (suc zero))))))) w s within = record { before = (refl, (refl, (refl, (refl, (refl, (refl, (refl, tt))))))); others = (inr refl, (inr refl, (inr refl, (inr refl, (inr refl, (inr refl, (inr refl, (inl refl, (inr refl, (inr refl, (inr refl, tt))))))))))); misc = refl; branches = refl }
-set_kept (suc (suc (suc (suc (suc (suc (suc (suc zero)))))))) w s within = record { before = (refl, (refl, (refl, (refl, (refl, (refl, (refl, (refl, tt)))))))); others = (inr refl, (inr refl, (inr refl, (inr refl, (inr refl, (inr refl, (inr refl, (inr refl, (inl refl, (inr refl, (inr refl, tt))))))))))); misc = refl; branches = refl }
+set_kept zero w s within = record { before = tt; others = search rules; misc = refl; branches = refl }
+set_kept (suc zero) w s within = record { before = search rules; others = search rules; misc = refl; branches = refl }
+set_kept (suc (suc zero)) w s within = record { before = search rules; others = search rules; misc = refl; branches = refl }
+set_kept (suc (suc (suc zero))) w s within = record { before = search rules; others = search rules; misc = refl; branches = refl }
+set_kept (suc (suc (suc (suc zero)))) w s within = record { before = search rules; others = search rules; misc = refl; branches = refl }
+set_kept (suc (suc (suc (suc (suc zero))))) w s within = record { before = search rules; others = search rules; misc = refl; branches = refl }
+set_kept (suc (suc (suc (suc (suc (suc zero)))))) w s within = record { before = search rules; others = search rules; misc = refl; branches = refl }
+set_kept (suc (suc (suc (suc (suc (suc (suc zero))))))) w s within = record { before = search rules; others = search rules; misc = refl; branches = refl }
+set_kept (suc (suc (suc (suc (suc (suc (suc (suc zero)))))))) w s within = record { before = search rules; others = search rules; misc = refl; branches = refl }
 set_kept (suc (suc (suc (suc (suc (suc (suc (suc (suc n))))))))) w s within = absurd (omega (arith, within))
 
 -- what stays where a field is read into a sample
@@ -171,7 +174,7 @@ record IndexSet (old new : Sample) : Type 0 where
   branches : new.branches ≡ old.branches
 
 index_set : (w : Word) (s : Sample) → IndexSet s (with_word place.HwIndex w s)
-index_set w s = record { before = (refl, (refl, (refl, (refl, (refl, (refl, (refl, (refl, (refl, tt))))))))); others = (inr refl, (inr refl, (inr refl, (inr refl, (inr refl, (inr refl, (inr refl, (inr refl, (inr refl, (inr refl, (inl refl, tt))))))))))); misc = refl; branches = refl }
+index_set w s = record { before = search rules; others = search rules; misc = refl; branches = refl }
 
 pub index_kept : (layout : LayoutWords) (old new : Sample) → SetsOnly place.HwIndex old new → has layout place.HwIndex ≡ true → Fits layout old → IndexKept layout old new
 index_kept layout old new sets on f =

@@ -5,7 +5,8 @@ use Rattle.byteorder.specs.Endian.{little_number}
 use Rattle.std.specs.List.{All, flat_map, AllByRecursion}
 use Rattle.perf_sample.specs.declared.sample.Sample.{Sample}
 use Rattle.perf_sample.specs.declared.faults.SampleFault.{SampleFault}
-use Rattle.perf_sample.specs.Layout.{LayoutWords, before_nr, all_fields, fields_in, fixed_len, nr_at, FlagsFit, Fits}
+use Rattle.perf_sample.specs.Layout.{LayoutWords, fields_in, fixed_len, nr_at, FlagsFit, Fits}
+use Rattle.perf_sample.specs.Fields.{before_nr, all_fields}
 use Rattle.perf_sample.specs.Spelling.{le, place_bytes, fields_bytes, header_bytes, branch_bytes, size_of, spelling, Spells}
 use Rattle.perf_sample.specs.Front.{SameWord}
 use Rattle.perf_sample.specs.Breaks.{number_at, is_size, Field, Header, At, branch_fields, fields_of, first_of, first_break}

@@ -12,15 +12,17 @@ use Rattle.perf_sample.specs.declared.faults.Place.{Place}
 use Rattle.perf_sample.specs.declared.faults.Place.TheVariants as place
 use Rattle.perf_sample.specs.declared.faults.SampleFault.{SampleFault}
 use Rattle.perf_sample.specs.declared.faults.SampleFault.TheVariants as fault
-use Rattle.perf_sample.specs.Layout.{LayoutWords, has, before_nr, all_fields, fields_in, fixed_len, nr_at, FlagsFit, Fits}
-use Rattle.perf_sample.specs.Words.{word_of, InWidth}
-use Rattle.perf_sample.specs.Blank.{blank}
+use Rattle.perf_sample.specs.Layout.{LayoutWords, has, fields_in, fixed_len, nr_at, FlagsFit, Fits}
+use Rattle.perf_sample.specs.Fields.{before_nr, all_fields}
+use Rattle.perf_sample.specs.Word.{InWidth}
+use Rattle.perf_sample.specs.Fields.{word_of}
+use Rattle.perf_sample.specs.Sample.{blank}
 use Rattle.perf_sample.specs.Front.{SetsOnly, SameWord}
 use Rattle.perf_sample.specs.Spelling.{le, place_bytes, fields_bytes, header_bytes, branch_bytes, size_of, Spells}
 use Rattle.perf_sample.specs.Back.{back_bytes, back_break}
 use Rattle.perf_sample.specs.Breaks.{number_at, is_size, Field, Header, At, branch_fields, fields_of, cut_in, wrong_in, or_on, unless, first_of, first_break}
 use Rattle.perf_sample.specs.BranchRange.{IsBranch}
-use Rattle.perf_sample.specs.Range.{IsSample}
+use Rattle.perf_sample.specs.Sample.{IsSample}
 use Rattle.perf_sample.proofs.NumberLaws.{AreBytes, number_back, halves_back, header_back, are_behind, are_before}
 use Rattle.perf_sample.proofs.BreakLaws.{behind, length_le, number_read, number_behind}
 use Rattle.perf_sample.proofs.HeaderLaws.{any_header, length_header, kind_read, size_read}

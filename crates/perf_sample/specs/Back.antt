@@ -6,7 +6,8 @@ use Rattle.std.specs.Io.KnownBytes.{Consumes}
 use Rattle.perf_sample.specs.declared.limits.TheConstants.{MAX_BRANCHES}
 use Rattle.perf_sample.specs.declared.sample.Sample.{Sample}
 use Rattle.perf_sample.specs.declared.faults.SampleFault.{SampleFault}
-use Rattle.perf_sample.specs.Layout.{LayoutWords, before_nr, from_nr, fields_in, Fits}
+use Rattle.perf_sample.specs.Layout.{LayoutWords, fields_in, Fits}
+use Rattle.perf_sample.specs.Fields.{before_nr, from_nr}
 use Rattle.perf_sample.specs.Spelling.{fields_bytes, branch_bytes, size_of}
 use Rattle.perf_sample.specs.Breaks.{At, number_at, first_of, branch_fields}
 use Rattle.perf_sample.specs.Format.{Break}

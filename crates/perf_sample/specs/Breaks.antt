@@ -5,7 +5,8 @@ use Rattle.std.specs.Prelude.{if◌then◌else◌, nat_eq, nat_le, nat_lt, List,
 use Rattle.std.specs.Prelude.{length, drop, Option, Some, None}
 use Rattle.byteorder.specs.Endian.{little_number}
 use Rattle.perf_sample.specs.Format.{Break, BreaksBy}
-use Rattle.perf_sample.specs.Layout.{LayoutWords, all_fields, fields_in, fixed_len, nr_at}
+use Rattle.perf_sample.specs.Layout.{LayoutWords, fields_in, fixed_len, nr_at}
+use Rattle.perf_sample.specs.Fields.{all_fields}
 use Rattle.perf_sample.specs.declared.flags.TheConstants.{FIRST_RESERVED, BRANCH_SIZE}
 use Rattle.perf_sample.specs.declared.flags.TheConstants.{PERF_RECORD_SAMPLE}
 use Rattle.perf_sample.specs.declared.limits.TheConstants.{MAX_BRANCHES}

@@ -4,41 +4,16 @@ use Rattle.std.specs.Prelude.{◌≡◌, ℕ, ◌<◌, ◌^◌, List, [], ◌∷
 use Rattle.std.specs.Io.KnownBytes.{Consumes}
 use Rattle.std.specs.List.{AllByRecursion}
 use Rattle.perf_sample.specs.declared.sample.Sample.{Sample}
-use Rattle.perf_sample.specs.declared.words.Word.{Word}
-use Rattle.perf_sample.specs.declared.words.Word.TheVariants as word
 use Rattle.perf_sample.specs.declared.faults.Place.{Place}
 use Rattle.perf_sample.specs.declared.faults.Place.TheVariants as place
 use Rattle.perf_sample.specs.declared.faults.SampleFault.{SampleFault}
 use Rattle.perf_sample.specs.declared.faults.SampleFault.TheVariants as fault
-use Rattle.perf_sample.specs.Words.{word_of}
-use Rattle.perf_sample.specs.Layout.{LayoutWords, before_nr, fields_in, Fits}
+use Rattle.perf_sample.specs.Layout.{LayoutWords, fields_in, Fits}
+use Rattle.perf_sample.specs.Fields.{before_nr, word_of, with_word}
 use Rattle.perf_sample.specs.Spelling.{le, place_bytes, fields_bytes}
 use Rattle.perf_sample.specs.Breaks.{At, first_of}
 use Rattle.perf_sample.specs.Format.{Break}
 use Rattle.perf_sample.specs.Reading.{Stopped}
-
--- the number of a word, or its lower half; and its upper half
-abbrev pub low_of : Word → ℕ
-low_of (word.Whole number) = number
-low_of (word.Halves low high) = low
-
-abbrev pub high_of : Word → ℕ
-high_of (word.Whole number) = 0
-high_of (word.Halves low high) = high
-
--- the sample with a word in this field
-abbrev pub with_word : Place → Word → Sample → Sample
-with_word place.Identifier w s = record s { identifier = low_of w }
-with_word place.Ip w s = record s { ip = low_of w }
-with_word place.Tid w s = record s { pid = low_of w; tid = high_of w }
-with_word place.Time w s = record s { time = low_of w }
-with_word place.Addr w s = record s { addr = low_of w }
-with_word place.Id w s = record s { id = low_of w }
-with_word place.StreamId w s = record s { stream_id = low_of w }
-with_word place.Cpu w s = record s { cpu = low_of w }
-with_word place.Period w s = record s { period = low_of w }
-with_word place.HwIndex w s = record s { hw_index = low_of w }
-with_word _ w s = s
 
 -- nothing but this field changed
 abbrev pub SetsOnly : Place → Sample → Sample → Type 0

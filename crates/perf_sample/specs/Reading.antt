@@ -13,7 +13,7 @@ use Rattle.perf_sample.specs.Spelling.{le, branch_bytes, Spells}
 use Rattle.perf_sample.specs.Breaks.{Field, At, branch_fields, cut_in, first_of, first_break}
 use Rattle.perf_sample.specs.Format.{Cause, OfRead, OfCount, OfBytes, FaultKinds, Break, Format}
 use Rattle.perf_sample.specs.Format.{Stops}
-use Rattle.perf_sample.specs.Range.{IsSample}
+use Rattle.perf_sample.specs.Sample.{IsSample}
 use Rattle.perf_sample.specs.declared.limits.TheConstants.{MAX_BRANCHES}
 use Rattle.perf_sample.specs.declared.faults.Place.{Place}
 use Rattle.perf_sample.specs.declared.faults.Place.TheVariants as place

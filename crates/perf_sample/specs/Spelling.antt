@@ -7,10 +7,11 @@ use Rattle.perf_sample.specs.declared.flags.TheConstants.{BRANCH_SIZE, PERF_RECO
 use Rattle.perf_sample.specs.declared.limits.TheConstants.{MAX_BRANCHES}
 use Rattle.perf_sample.specs.declared.sample.Branch.{Branch}
 use Rattle.perf_sample.specs.declared.sample.Sample.{Sample}
-use Rattle.perf_sample.specs.declared.words.Word.{Word}
-use Rattle.perf_sample.specs.declared.words.Word.TheVariants as word
-use Rattle.perf_sample.specs.Words.{word_of}
-use Rattle.perf_sample.specs.Layout.{LayoutWords, all_fields, fields_in, fixed_len, Fits}
+use Rattle.perf_sample.specs.declared.word.Word.{Word}
+use Rattle.perf_sample.specs.declared.word.Word.TheVariants as word
+use Rattle.perf_sample.specs.Fields.{word_of}
+use Rattle.perf_sample.specs.Layout.{LayoutWords, fields_in, fixed_len, Fits}
+use Rattle.perf_sample.specs.Fields.{all_fields}
 
 -- the k bytes of a number, the lowest first; closed, so that no goal spells them out
 unfoldable pub le : ℕ → ℕ → List ℕ

@@ -5,7 +5,7 @@ ghost use Rattle.std.specs.Prelude.{◌≡◌, ◌≤◌, [], OnOk};
 ghost use Rattle.ctr_port.specs.Counts.{HasCause};
 ghost use Rattle.perf_sample.specs.Layout.{Fits};
 ghost use Rattle.perf_sample.specs.Back.{TakesBack};
-ghost use Rattle.perf_sample.specs.Range.{IsSample};
+ghost use Rattle.perf_sample.specs.Sample.{IsSample};
 ghost use Rattle.perf_sample.specs.Reading.{is_read};
 
 use crate::branch::{read_branches, read_nr};

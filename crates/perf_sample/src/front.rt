@@ -4,15 +4,47 @@ ghost use Rattle.std.specs.Prelude.{◌≡◌, ◌≤◌, [], true, OnOk};
 ghost use Rattle.perf_sample.specs.Reading.{is_read};
 ghost use Rattle.ctr_port.specs.Counts.{HasCause};
 ghost use Rattle.perf_sample.specs.Layout.{has, Fits};
-ghost use Rattle.perf_sample.specs.Range.{IsSample};
+ghost use Rattle.perf_sample.specs.Sample.{IsSample};
 ghost use Rattle.perf_sample.specs.Front.{PutsIn, TakesRow, TakesFront, TakesHwIndex};
 
 use crate::branch::read_place;
 use crate::faults::{Place, SampleFault};
-use crate::layout::{BEFORE_NR, Layout};
+use crate::fields::{BEFORE_NR, fields};
+use crate::layout::Layout;
 use crate::numbers::{halves, number};
 use crate::sample::Sample;
 use ctr_port::Source;
+
+macro_rules! put {
+    (whole $sample:ident $bytes:ident $name:ident) => {
+        $sample.$name = number($bytes)
+    };
+    (halves $sample:ident $bytes:ident $low:ident $high:ident) => {{
+        let (low, high) = halves($bytes);
+        $sample.$low = low;
+        $sample.$high = high;
+    }};
+    (lower $sample:ident $bytes:ident $name:ident) => {{
+        let (low, reserved) = halves($bytes);
+        if reserved != 0 {
+            return Err(SampleFault::CpuReserved);
+        }
+        $sample.$name = low;
+    }};
+}
+
+macro_rules! put_field {
+    (
+        ($sample:ident $place:ident $bytes:ident)
+        $($field:ident $bit:literal $form:ident $($name:ident)+;)*
+    ) => {
+        match $place {
+            $(Place::$field => put!($form $sample $bytes $($name)+),)*
+            Place::HwIndex => put!(whole $sample $bytes hw_index),
+            Place::Nr | Place::From(_) | Place::To(_) | Place::Flags(_) => {}
+        }
+    };
+}
 
 // Puts the bytes of a field into the sample. The number of branches and the fields of a branch have
 // no place of their own in it.
@@ -20,29 +52,7 @@ fn put_in(sample: &mut Sample, place: Place, bytes: &[u8; 8]) -> Result<(), Samp
     ensures puts { PutsIn place bytes.now sample.old sample.new result }
     ensures range { IsSample sample.old → IsSample sample.new }
 {
-    match place {
-        Place::Identifier => sample.identifier = number(bytes),
-        Place::Ip => sample.ip = number(bytes),
-        Place::Tid => {
-            let (pid, tid) = halves(bytes);
-            sample.pid = pid;
-            sample.tid = tid;
-        }
-        Place::Time => sample.time = number(bytes),
-        Place::Addr => sample.addr = number(bytes),
-        Place::Id => sample.id = number(bytes),
-        Place::StreamId => sample.stream_id = number(bytes),
-        Place::Cpu => {
-            let (cpu, reserved) = halves(bytes);
-            if reserved != 0 {
-                return Err(SampleFault::CpuReserved);
-            }
-            sample.cpu = cpu;
-        }
-        Place::Period => sample.period = number(bytes),
-        Place::HwIndex => sample.hw_index = number(bytes),
-        Place::Nr | Place::From(_) | Place::To(_) | Place::Flags(_) => {}
-    }
+    fields!(put_field, sample place bytes);
     Ok(())
 }
 

@@ -13,6 +13,7 @@ mod branch;
 mod branches;
 mod faults;
 mod field;
+mod fields;
 mod flags;
 mod front;
 mod header;
@@ -24,7 +25,7 @@ mod perf_types;
 mod reader;
 mod reading;
 mod sample;
-mod words;
+mod word;
 mod writing;
 
 pub use back::read_back;
@@ -32,8 +33,8 @@ pub use branches::Branches;
 pub use faults::{Place, SampleFault};
 pub use field::{Stop, read_number};
 pub use flags::{
-    BRANCH_SIZE, FIRST_RESERVED, HW_INDEX, MISC_GUEST_KERNEL, MISC_GUEST_USER, MISC_HYPERVISOR,
-    MISC_KERNEL, MISC_USER, MISPRED, PERF_RECORD_SAMPLE, PREDICTED, TYPE,
+    BRANCH_SIZE, BRANCH_STACK, FIRST_RESERVED, HW_INDEX, MISC_GUEST_KERNEL, MISC_GUEST_USER,
+    MISC_HYPERVISOR, MISC_KERNEL, MISC_USER, MISPRED, PERF_RECORD_SAMPLE, PREDICTED, TYPE,
 };
 pub use front::read_front;
 pub use header::{Header, read_header};

@@ -1,7 +1,7 @@
 //! The sizes and limits of samples, each once.
 
+use crate::fields::BEFORE_NR;
 use crate::flags::BRANCH_SIZE;
-use crate::layout::BEFORE_NR;
 
 /// How many bytes a field has, and a header.
 pub const FIELD_SIZE: u16 = 8;

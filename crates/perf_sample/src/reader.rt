@@ -4,7 +4,7 @@ ghost use Rattle.std.specs.Prelude.{◌≡◌, ◌≤◌, Some, None, length, If
 ghost use Rattle.ctr_port.specs.Counts.{HasCause};
 ghost use Rattle.perf_sample.specs.Format.{answer_of};
 ghost use Rattle.perf_sample.specs.Layout.{LayoutWords};
-ghost use Rattle.perf_sample.specs.Range.{IsSample};
+ghost use Rattle.perf_sample.specs.Sample.{IsSample};
 ghost use Rattle.perf_sample.specs.Reader.{fresh, IsNextAnswer, after, ReadsSample};
 ghost use Rattle.perf_sample.specs.Reading.{is_read, sample_format};
 ghost use Rattle.perf_sample.specs.Spelling.{spelling};

@@ -3,7 +3,7 @@
 ghost use Rattle.std.specs.Prelude.{◌≡◌, ◌≤◌, IfOk, IfSome};
 ghost use Rattle.ctr_port.specs.Counts.{HasCause};
 ghost use Rattle.perf_sample.specs.Format.{answer_of, TakesRecord};
-ghost use Rattle.perf_sample.specs.Range.{IsSample};
+ghost use Rattle.perf_sample.specs.Sample.{IsSample};
 ghost use Rattle.perf_sample.specs.Reading.{is_read, sample_format};
 
 use crate::back::read_back;

@@ -4,22 +4,25 @@ ghost use Rattle.std.specs.Prelude.{◌≡◌, ◌+◌, ◌*◌, ◌≤◌, ◌<
 ghost use Rattle.perf_sample.specs.declared.faults.Place.{Place};
 ghost use Rattle.std.specs.List.{flat_map};
 ghost use Rattle.arrayvec.specs.ArrayVec.{array_vec_len};
-ghost use Rattle.perf_sample.specs.Layout.{all_fields, before_nr, fields_in};
+ghost use Rattle.perf_sample.specs.Layout.{fields_in};
+ghost use Rattle.perf_sample.specs.Fields.{all_fields, before_nr};
 ghost use Rattle.perf_sample.specs.Layout.{fixed_len, Fits};
 ghost use Rattle.perf_sample.specs.Back.{back_bytes};
 ghost use Rattle.perf_sample.specs.Front.{front_bytes};
-ghost use Rattle.perf_sample.specs.Words.{word_of, InWidth};
+ghost use Rattle.perf_sample.specs.Word.{InWidth};
+ghost use Rattle.perf_sample.specs.Fields.{word_of};
 ghost use Rattle.perf_sample.specs.BranchRange.{IsBranch};
-ghost use Rattle.perf_sample.specs.Range.{IsSample};
+ghost use Rattle.perf_sample.specs.Sample.{IsSample};
 ghost use Rattle.perf_sample.specs.Spelling.{le, word_bytes, fields_bytes, header_bytes};
 ghost use Rattle.perf_sample.specs.Spelling.{branch_bytes, Spells};
 
 use crate::faults::Place;
+use crate::fields::BEFORE_NR;
 use crate::flags::{BRANCH_SIZE, PERF_RECORD_SAMPLE};
-use crate::layout::{BEFORE_NR, Layout};
+use crate::layout::Layout;
 use crate::limits::{BUFFER_SIZE, FIELD_SIZE, MAX_BRANCHES, MAX_FRONT_SIZE, MAX_STACK_SIZE};
 use crate::sample::{Branch, Sample};
-use crate::words::{Word, word_of};
+use crate::word::{Word, word_of};
 use arrayvec::ArrayVec;
 use byteorder::{ByteOrder, LittleEndian};
 

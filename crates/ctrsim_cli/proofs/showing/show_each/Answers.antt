@@ -1,6 +1,6 @@
 use Rattle.std.proofs.Common.{arith, subst, Ok, Option, ◌≡◌}
 use Rattle.perf_sample.specs.declared.sample.Sample.{Sample}
-use Rattle.perf_sample.specs.Range.{IsSample}
+use Rattle.perf_sample.specs.Sample.{IsSample}
 use Rattle.perf_sample.specs.Reader.{after, IsNextAnswer}
 use Rattle.perf_sample.specs.Reading.{sample_format}
 use Rattle.perf_sample.specs.Spelling.{spelling}

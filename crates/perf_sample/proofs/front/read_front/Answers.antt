@@ -2,7 +2,8 @@ use Rattle.std.proofs.Common.{◌≡◌, ℕ, ◌∙◌, arith, sym, subst, refl
 use Rattle.std.proofs.lemmas.Result.{err_from_is_err_and}
 use Rattle.std.specs.Io.KnownBytes.{Consumes}
 use Rattle.perf_sample.specs.declared.faults.Place.TheVariants as place
-use Rattle.perf_sample.specs.Layout.{before_nr, fields_in}
+use Rattle.perf_sample.specs.Layout.{fields_in}
+use Rattle.perf_sample.specs.Fields.{before_nr}
 use Rattle.perf_sample.specs.Spelling.{fields_bytes}
 use Rattle.perf_sample.proofs.FieldLaws.{bytes_out, in_none}
 use Rattle.ctr_port.proofs.PieceLaws.{taken_nothing}

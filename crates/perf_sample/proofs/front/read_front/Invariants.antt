@@ -1,8 +1,9 @@
 use Rattle.std.proofs.Common.{◌≡◌, ◌≤◌, take}
 use Rattle.std.specs.Io.KnownBytes.{Consumes}
-use Rattle.perf_sample.specs.Layout.{before_nr, fields_in, Fits}
+use Rattle.perf_sample.specs.Layout.{fields_in, Fits}
+use Rattle.perf_sample.specs.Fields.{before_nr}
 use Rattle.perf_sample.specs.Spelling.{fields_bytes}
-use Rattle.perf_sample.specs.Range.{IsSample}
+use Rattle.perf_sample.specs.Sample.{IsSample}
 use Rattle.perf_sample.proofs.front.read_front.Given as goal
 
 abbrev pub invariant-loop-place : goal.invariant-loop-place

@@ -2,9 +2,10 @@ use Rattle.std.proofs.Common.{◌≡◌, ◌+◌, ◌*◌, ◌∙◌, ap, refl, 
 use Rattle.std.proofs.lemmas.List.Elements.{recursion_from_All}
 use Rattle.perf_sample.specs.declared.faults.Place.{Place}
 use Rattle.perf_sample.specs.declared.faults.Place.TheVariants as place
-use Rattle.perf_sample.specs.Layout.{before_nr}
+use Rattle.perf_sample.specs.Fields.{before_nr}
 use Rattle.perf_sample.specs.Spelling.{size_of, spelling}
-use Rattle.perf_sample.specs.Words.{word_of, InWidth}
+use Rattle.perf_sample.specs.Word.{InWidth}
+use Rattle.perf_sample.specs.Fields.{word_of}
 use Rattle.perf_sample.proofs.FieldLaws.{all_of_both}
 use Rattle.perf_sample.proofs.SampleLaws.{parts_written}
 use Rattle.perf_sample.proofs.SpellingLaws.{length_spelling}

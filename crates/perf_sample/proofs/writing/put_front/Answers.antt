@@ -3,10 +3,12 @@ use Rattle.std.proofs.lemmas.List.Elements.{All-nil, All-more, recursion_from_Al
 use Rattle.arrayvec.specs.ArrayVec.{array_vec_len}
 use Rattle.perf_sample.specs.declared.faults.Place.{Place}
 use Rattle.perf_sample.specs.declared.faults.Place.TheVariants as place
-use Rattle.perf_sample.specs.Words.{word_of, InWidth}
-use Rattle.perf_sample.specs.Layout.{before_nr, fields_in, fixed_len}
+use Rattle.perf_sample.specs.Word.{InWidth}
+use Rattle.perf_sample.specs.Fields.{word_of}
+use Rattle.perf_sample.specs.Layout.{fields_in, fixed_len}
+use Rattle.perf_sample.specs.Fields.{before_nr}
 use Rattle.perf_sample.specs.Spelling.{word_bytes, fields_bytes}
-use Rattle.perf_sample.specs.declared.words.Word.{Word}
+use Rattle.perf_sample.specs.declared.word.Word.{Word}
 use Rattle.perf_sample.proofs.FieldLaws.{in_none, length_there, in_more_out, bytes_there, bytes_out}
 use Rattle.perf_sample.proofs.writing.put_front.Goals.{then-has, else-has}
 use Rattle.perf_sample.proofs.writing.put_front.Goals as goal

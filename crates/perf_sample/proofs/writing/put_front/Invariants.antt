@@ -1,7 +1,9 @@
 use Rattle.std.proofs.Common.{◌≡◌, ◌≤◌, ◌+◌, ◌*◌, ◌++◌, All, length, take}
 use Rattle.arrayvec.specs.ArrayVec.{array_vec_len}
-use Rattle.perf_sample.specs.Words.{word_of, InWidth}
-use Rattle.perf_sample.specs.Layout.{before_nr, fields_in}
+use Rattle.perf_sample.specs.Word.{InWidth}
+use Rattle.perf_sample.specs.Fields.{word_of}
+use Rattle.perf_sample.specs.Layout.{fields_in}
+use Rattle.perf_sample.specs.Fields.{before_nr}
 use Rattle.perf_sample.specs.Spelling.{fields_bytes}
 use Rattle.perf_sample.proofs.writing.put_front.Given as goal
 

@@ -2,8 +2,8 @@ use Rattle.std.proofs.Common.{◌≡◌, List, ◌++◌, sym, ap, ◌∙◌, app
 use Rattle.perf_sample.specs.declared.faults.Place.{Place}
 use Rattle.perf_sample.specs.declared.faults.Place.TheVariants as place
 use Rattle.perf_sample.specs.Spelling.{word_bytes, place_bytes, fields_bytes}
-use Rattle.perf_sample.specs.Words.{word_of}
-use Rattle.perf_sample.specs.declared.words.Word.{Word}
+use Rattle.perf_sample.specs.Fields.{word_of}
+use Rattle.perf_sample.specs.declared.word.Word.{Word}
 use Rattle.perf_sample.proofs.FieldLaws.{in_there, in_left_out}
 use Rattle.perf_sample.proofs.writing.put_hw_index.Goals as goal
 

@@ -1,9 +1,11 @@
 //! What a field of eight bytes holds.
 
 ghost use Rattle.std.specs.Prelude.{◌≡◌, ◌<◌, ◌^◌, IsTrue, ◌↔◌};
-ghost use Rattle.perf_sample.specs.Words.{word_of, IsZero, InWidth};
+ghost use Rattle.perf_sample.specs.Word.{IsZero, InWidth};
+ghost use Rattle.perf_sample.specs.Fields.{word_of};
 
 use crate::faults::Place;
+use crate::fields::fields;
 use crate::sample::Sample;
 
 /// A number, or two of half the width, the lower half first.
@@ -39,23 +41,33 @@ fn halves(low: u32, high: u32) -> Word
     Word::Halves(low, high)
 }
 
+macro_rules! word {
+    (whole $sample:ident $name:ident) => {
+        whole($sample.$name)
+    };
+    (halves $sample:ident $low:ident $high:ident) => {
+        halves($sample.$low, $sample.$high)
+    };
+    (lower $sample:ident $name:ident) => {
+        halves($sample.$name, 0)
+    };
+}
+
+macro_rules! field_word {
+    (($sample:ident $place:ident) $($field:ident $bit:literal $form:ident $($name:ident)+;)*) => {
+        match $place {
+            $(Place::$field => word!($form $sample $($name)+),)*
+            Place::Nr => whole($sample.branches.items().len() as u64),
+            Place::HwIndex => whole($sample.hw_index),
+            Place::From(_) | Place::To(_) | Place::Flags(_) => whole(0),
+        }
+    };
+}
+
 /// The word in a field of a sample between its header and its branches.
 pub(crate) fn word_of(sample: &Sample, place: Place) -> Word
     ensures word { result ≡ word_of place sample.now }
     ensures range { InWidth (word_of place sample.now) }
 {
-    match place {
-        Place::Identifier => whole(sample.identifier),
-        Place::Ip => whole(sample.ip),
-        Place::Tid => halves(sample.pid, sample.tid),
-        Place::Time => whole(sample.time),
-        Place::Addr => whole(sample.addr),
-        Place::Id => whole(sample.id),
-        Place::StreamId => whole(sample.stream_id),
-        Place::Cpu => halves(sample.cpu, 0),
-        Place::Period => whole(sample.period),
-        Place::Nr => whole(sample.branches.items().len() as u64),
-        Place::HwIndex => whole(sample.hw_index),
-        Place::From(_) | Place::To(_) | Place::Flags(_) => whole(0),
-    }
+    fields!(field_word, sample place)
 }
