@@ -1,2 +1,2 @@
 pub mod InHand
-pub mod Laws
+pub mod PieceLaws

@@ -1,9 +1,12 @@
--- What a reader must believe: Counts, Given, Appended, Script and Memory. InHand says what is known of a source
--- that may tell nothing, and Std ties the ends over std to the traits.
+-- What a reader must believe: Counts, Source, Sink, Script, MemorySource and MemorySink. InHand
+-- says what is known of a source that may tell nothing, and StdSource and StdSink tie the ends over
+-- std to the traits.
 pub mod Counts
-pub mod Given
+pub mod Source
 pub mod InHand
-pub mod Appended
+pub mod Sink
 pub mod Script
-pub mod Memory
-pub mod Std
+pub mod MemorySource
+pub mod MemorySink
+pub mod StdSource
+pub mod StdSink

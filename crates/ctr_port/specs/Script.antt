@@ -1,5 +1,6 @@
 -- How an end over memory behaves: how much each call moves, and which calls fail.
-use Rattle.std.specs.Prelude.{ℕ, zero, suc, ◌+◌, ◌-◌, ◌%◌, ◌^◌, List, [], ◌∷◌, length, min, None, Some, nat_eq, slice_index, if◌then◌else◌}
+use Rattle.std.specs.Prelude.{ℕ, zero, suc, ◌+◌, ◌-◌, ◌%◌, ◌^◌, List, [], ◌∷◌, length, min, None}
+use Rattle.std.specs.Prelude.{Some, nat_eq, slice_index, if◌then◌else◌}
 use Rattle.std.specs.List.{list_any}
 use Rattle.std.specs.declared.option.Option.{Option}
 use Rattle.ctr_port.specs.declared.ends.Got.{Got}
@@ -7,7 +8,8 @@ use Rattle.ctr_port.specs.declared.ends.Got.TheVariants as got
 use Rattle.ctr_port.specs.declared.ends.Put.{Put}
 use Rattle.ctr_port.specs.declared.ends.Put.TheVariants as put
 
--- the lengths of pieces, used in turn; the numbers of the calls that fail; the number of the next call
+-- the lengths of pieces, used in turn; the numbers of the calls that fail; the number of the next
+-- call
 pub record Plan : Type 0 where
   pub pieces : List ℕ
   pub failing : List ℕ
@@ -20,11 +22,13 @@ cut (p ∷ ps) call most = min most (slice_index (p ∷ ps) (call % length (p �
 
 -- what the next call moves of so many bytes; none where it fails
 abbrev pub limit : Plan → ℕ → Option ℕ
-limit plan most = if list_any (λ k. nat_eq k plan.call) plan.failing then None else Some (cut plan.pieces plan.call most)
+limit plan most =
+    if list_any (λ k. nat_eq k plan.call) plan.failing then None
+    else Some (cut plan.pieces plan.call most)
 
 -- the plan after a call; the number stays at its last value once it is there
 abbrev pub after : Plan → Plan
-after plan = record { pieces = plan.pieces; failing = plan.failing; call = min (plan.call + 1) (2 ^ 64 - 1) }
+after plan = record plan { call = min (plan.call + 1) (2 ^ 64 - 1) }
 
 -- what a read that moves so many bytes answers
 abbrev pub got_of : Option ℕ → Got

@@ -1,7 +1,8 @@
 // A source over bytes in memory.
-ghost use Rattle.std.specs.Prelude.{◌≡◌, ◌↔◌, ℕ, ◌<◌, ◌≤◌, IsTrue, Some, None, All, drop, length, min, IfOk};
+ghost use Rattle.std.specs.Prelude.{◌≡◌, ◌↔◌, ℕ, ◌<◌, ◌≤◌, IsTrue, Some, None, All, drop, length};
+ghost use Rattle.std.specs.Prelude.{min, IfOk};
 ghost use Rattle.ctr_port.specs.Counts.{Rose};
-ghost use Rattle.ctr_port.specs.Given.{GivesNext, GivesField};
+ghost use Rattle.ctr_port.specs.Source.{GivesNext, GivesField};
 ghost use Rattle.ctr_port.specs.Script.{limit, after, got_of, reads_failed};
 
 use crate::ends::{Got, NoMemory};
@@ -11,8 +12,9 @@ use std::alloc::Global;
 
 /// A source over bytes in memory, which gives them in pieces and fails as it was told to.
 ///
-/// Calls are numbered from 0. Call k gives as many bytes as the least of three numbers: the length of the buffer,
-/// what is left, and `pieces[k mod pieces.len()]`. A call whose number is in `failing` answers `Failed`.
+/// Calls are numbered from 0. Call k gives as many bytes as the least of three numbers: the length
+/// of the buffer, what is left, and `pieces[k mod pieces.len()]`. A call whose number is in
+/// `failing` answers `Failed`.
 #[derive(Drop)]
 pub struct MemSource {
     bytes: Vec<u8>,
@@ -23,9 +25,10 @@ pub struct MemSource {
 }
 
 impl MemSource {
-    ghost use Rattle.ctr_port.specs.Memory.{left_of, source_plan, source_faults};
+    ghost use Rattle.ctr_port.specs.MemorySource.{left_of, source_plan, source_faults};
 
-    /// A source that has all of `bytes` left. No number in `pieces` is 0; no `pieces` sets no limit.
+    /// A source that has all of `bytes` left. No number in `pieces` is 0; no `pieces` sets no
+    /// limit.
     pub fn new(
         alloc: Global,
         bytes: &[u8],
@@ -34,7 +37,8 @@ impl MemSource {
     ) -> Result<MemSource, NoMemory>
         requires { All (λ p. 0 < p) pieces.now }
         ensures left { IfOk result (λ s. left_of s ≡ bytes.now) }
-        ensures plan { IfOk result (λ s. source_plan s ≡ record { pieces = pieces.now; failing = failing.now; call = 0 }) }
+        ensures plan { IfOk result (λ s. source_plan s
+            ≡ record { pieces = pieces.now; failing = failing.now; call = 0 }) }
         ensures faults { IfOk result (λ s. source_faults s ≡ 0) }
     {
         Ok(MemSource {
@@ -59,7 +63,8 @@ impl MemSource {
     #[inline(always)]
     fn give_field(&mut self, buf: &mut [u8])
         requires { GivesField (length buf.old) (left_of self.old) (source_plan self.old) }
-        ensures gives { GivesNext (Some (left_of self.old)) (Some (left_of self.new)) (Got.Bytes 8) buf.new }
+        ensures gives { GivesNext (Some (left_of self.old)) (Some (left_of self.new))
+            (Got.Bytes 8) buf.new }
         ensures plan { source_plan self.new ≡ after (source_plan self.old) }
         ensures faults { source_faults self.new ≡ source_faults self.old }
     {
@@ -74,10 +79,13 @@ impl MemSource {
     #[inline(never)]
     fn read_piece(&mut self, buf: &mut [u8]) -> Got
         requires { 0 < length buf.old }
-        ensures gives { GivesNext (Some (left_of self.old)) (Some (left_of self.new)) result buf.new }
+        ensures gives { GivesNext (Some (left_of self.old)) (Some (left_of self.new))
+            result buf.new }
         ensures later { source_faults self.old ≤ source_faults self.new }
-        ensures cause { result ≡ Got.Failed → Rose (source_faults self.old) (source_faults self.new) }
-        ensures exact { result ≡ got_of (limit (source_plan self.old) (min (length buf.old) (length (left_of self.old)))) }
+        ensures cause { result ≡ Got.Failed
+            → Rose (source_faults self.old) (source_faults self.new) }
+        ensures exact { result ≡ got_of (limit (source_plan self.old)
+            (min (length buf.old) (length (left_of self.old)))) }
         ensures plan { source_plan self.new ≡ after (source_plan self.old) }
         ensures count { source_faults self.new ≡ reads_failed result (source_faults self.old) }
     {
@@ -98,7 +106,7 @@ impl MemSource {
 }
 
 impl Source for MemSource {
-    ghost use Rattle.ctr_port.specs.Memory.{left_of, source_plan, source_faults};
+    ghost use Rattle.ctr_port.specs.MemorySource.{left_of, source_plan, source_faults};
 
     ghost left = { λ s. Some (left_of s) };
 
@@ -109,10 +117,13 @@ impl Source for MemSource {
     #[inline(never)]
     fn read(&mut self, buf: &mut [u8]) -> Got
         requires { 0 < length buf.old }
-        ensures gives { GivesNext (Some (left_of self.old)) (Some (left_of self.new)) result buf.new }
+        ensures gives { GivesNext (Some (left_of self.old)) (Some (left_of self.new))
+            result buf.new }
         ensures later { source_faults self.old ≤ source_faults self.new }
-        ensures cause { result ≡ Got.Failed → Rose (source_faults self.old) (source_faults self.new) }
-        ensures exact { result ≡ got_of (limit (source_plan self.old) (min (length buf.old) (length (left_of self.old)))) }
+        ensures cause { result ≡ Got.Failed
+            → Rose (source_faults self.old) (source_faults self.new) }
+        ensures exact { result ≡ got_of (limit (source_plan self.old)
+            (min (length buf.old) (length (left_of self.old)))) }
         ensures plan { source_plan self.new ≡ after (source_plan self.old) }
         ensures count { source_faults self.new ≡ reads_failed result (source_faults self.old) }
     {

@@ -6,7 +6,8 @@ use crate::ends::NoMemory;
 use std::alloc::Global;
 use std::marker::Model;
 
-/// The lengths of pieces, used in turn, the numbers of the calls that fail, and the number of the next call.
+/// The lengths of pieces, used in turn, the numbers of the calls that fail, and the number of the
+/// next call.
 #[derive(Drop)]
 pub struct Script {
     pieces: Vec<usize>,
@@ -31,7 +32,8 @@ impl Script {
     /// A script whose next call has the number 0. No piece is empty.
     pub fn new(alloc: Global, pieces: &[usize], failing: &[u64]) -> Result<Script, NoMemory>
         requires { All (λ p. 0 < p) pieces.now }
-        ensures { IfOk result (λ s. s ≡ record { pieces = pieces.now; failing = failing.now; call = 0 }) }
+        ensures { IfOk result (λ s. s
+            ≡ record { pieces = pieces.now; failing = failing.now; call = 0 }) }
     {
         Ok(Script {
             pieces: Vec::from_slice(alloc, pieces)?,

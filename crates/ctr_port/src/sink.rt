@@ -1,13 +1,14 @@
 // Where bytes go.
 ghost use Rattle.std.specs.Prelude.{◌≡◌, ℕ, ◌<◌, ◌≤◌, List, [], ◌++◌, length, OnOk, OnErr};
 ghost use Rattle.ctr_port.specs.Counts.{Rose};
-ghost use Rattle.ctr_port.specs.Appended.{TakesFront, GainsPart};
+ghost use Rattle.ctr_port.specs.Sink.{TakesFront, GainsPart};
 
 use crate::ends::{Put, WriteFault};
 
 /// Where bytes go, in pieces of any length from 1.
 pub trait Sink {
-    // the second state is the first with these bytes appended; a sink that doesn't tell relates all states
+    // the second state is the first with these bytes appended; a sink that doesn't tell relates all
+    // states
     ghost gained: { Self → List ℕ → Self → Type 0 };
 
     // how often a write has failed; it stays at 2^64 - 1 once it is there

@@ -2,7 +2,7 @@
 ghost use Rattle.std.specs.Prelude.{◌≡◌, ℕ, ◌<◌, ◌≤◌, List, length};
 ghost use Rattle.std.specs.declared.option.Option.{Option};
 ghost use Rattle.ctr_port.specs.Counts.{Rose};
-ghost use Rattle.ctr_port.specs.Given.{GivesNext};
+ghost use Rattle.ctr_port.specs.Source.{GivesNext};
 
 use crate::ends::Got;
 

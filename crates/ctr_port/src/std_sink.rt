@@ -15,7 +15,7 @@ pub struct StdSink<W: Write> {
 }
 
 impl<W: Write> StdSink<W> {
-    ghost use Rattle.ctr_port.specs.Std.{writer_of, write_faults};
+    ghost use Rattle.ctr_port.specs.StdSink.{writer_of, write_faults};
 
     /// A sink whose count of faults is 0.
     pub fn new(writer: W) -> StdSink<W>

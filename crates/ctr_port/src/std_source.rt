@@ -8,7 +8,8 @@ use std::io::Read;
 
 /// A source over a reader, such as standard input. It tells nothing of its bytes.
 ///
-/// Each `Err` of the reader, and each count beyond the buffer, is a fault. A read of no byte is the end.
+/// Each `Err` of the reader, and each count beyond the buffer, is a fault. A read of no byte is the
+/// end.
 #[derive(Drop)]
 pub struct StdSource<R: Read> {
     reader: R,
@@ -16,7 +17,7 @@ pub struct StdSource<R: Read> {
 }
 
 impl<R: Read> StdSource<R> {
-    ghost use Rattle.ctr_port.specs.Std.{reader_of, read_faults};
+    ghost use Rattle.ctr_port.specs.StdSource.{reader_of, read_faults};
 
     /// A source whose count of faults is 0.
     pub fn new(reader: R) -> StdSource<R>

@@ -1,6 +1,6 @@
 use super::{
-    Got, MemSink, MemSource, NoMemory, Put, Sink, Source, StdSink, StdSource, WriteFault,
-    write_whole,
+    Got, List, MemSink, MemSource, NoMemory, NullSink, Put, Sink, Source, StdSink, StdSource,
+    WriteFault, write_whole,
 };
 use std::io::{Error, ErrorKind, Read, Result as IoResult, Write};
 
@@ -144,4 +144,25 @@ fn a_sink_over_a_writer_flushes_and_counts_what_takes_nothing_as_a_fault(rt: Hos
     assert_eq!(rt; sink.write(b"d"), Put::Took(1));
     assert_eq!(rt; sink.write(b"e"), Put::Failed, "the writer takes nothing");
     assert_eq!(rt; held.held, *b"abcd");
+}
+
+#[test]
+fn a_null_sink_takes_every_piece_whole(rt: HostRuntime) {
+    let mut sink = NullSink;
+    assert_eq!(rt; sink.write(b"abc"), Put::Took(3));
+    assert_eq!(rt; write_whole(&mut sink, b"defg"), Ok(()));
+}
+
+#[test]
+fn a_list_keeps_items_in_order(rt: HostRuntime) -> Result<(), NoMemory> {
+    let mut numbers = List::new(rt.alloc());
+    numbers.push(7u64)?;
+    numbers.push(5)?;
+    assert_eq!(rt; numbers.items(), [7, 5].as_slice());
+    let mut bytes = List::new(rt.alloc());
+    bytes.push(b'a')?;
+    bytes.extend(b"bc")?;
+    bytes.extend(b"")?;
+    assert_eq!(rt; bytes.items(), b"abc".as_slice());
+    Ok(())
 }

@@ -4,24 +4,26 @@ use Rattle.std.proofs.lemmas.List.{nil_from_length}
 use Rattle.std.proofs.lemmas.List.Elements.{All-head, All-tail, All-append, All-cons, All-nil}
 use Rattle.std.specs.Io.KnownBytes.{Consumes}
 use Rattle.ctr_port.specs.InHand.{Of}
-use Rattle.ctr_port.specs.Appended.{GainsPart}
-use Rattle.ctr_port.proofs.Laws.{part_after, part_of_more}
+use Rattle.ctr_port.specs.Sink.{GainsPart}
+use Rattle.ctr_port.proofs.PieceLaws.{part_after, part_of_more}
 use Rattle.perf_sample.specs.declared.sample.Sample.{Sample}
 use Rattle.perf_sample.specs.declared.faults.SampleFault.{SampleFault}
 use Rattle.perf_sample.specs.Layout.{LayoutWords}
 use Rattle.perf_sample.specs.Spelling.{spelling, Spells}
 use Rattle.perf_sample.specs.Breaks.{Breaks}
-use Rattle.perf_sample.specs.Range.{IsSample}
-use Rattle.perf_sample.specs.Reader.{most, Refuses}
-use Rattle.perf_sample.specs.Reading.{cause_of, Cause, OfRead, OfCount, OfBytes}
+use Rattle.perf_sample.specs.Sample.{IsSample}
+use Rattle.perf_sample.specs.declared.limits.TheConstants.{MAX_SAMPLES}
+use Rattle.perf_sample.specs.Reader.{Refuses}
+use Rattle.perf_sample.specs.Format.{Cause, OfRead, OfCount, OfBytes}
+use Rattle.perf_sample.specs.Reading.{cause_of, sample_format}
 use Rattle.ctrsim_cli.specs.declared.showing.ShowFault.{ShowFault}
 use Rattle.ctrsim_cli.specs.declared.showing.ShowFault.TheVariants as fault
 use Rattle.perf_sample.specs.declared.faults.SampleFault.TheVariants as sample_fault
 use Rattle.std.proofs.KnownBytes.{Consumes-trans}
 use Rattle.std.specs.Bool.{⊤}
 use Rattle.perf_sample.specs.Reader.{IsCutOff}
-use Rattle.perf_sample.proofs.OneSpelling.{one_spelling}
-use Rattle.perf_sample.proofs.ExactLaws.{clash, spelled_some}
+use Rattle.perf_sample.proofs.OneSpelling.{one_spelling, samples_exact, spelled_some}
+use Rattle.perf_sample.proofs.ExactLaws.{clash}
 use Rattle.ctrsim_cli.specs.SampleText.{shown_sample}
 use Rattle.ctrsim_cli.specs.Showing.{joined, texts, AreSpelled, AreShown, AllShown, Refused, Unwritten, Shown, ByCause, BytesAnswer, ShowAnswer, TakenShown, CutAt}
 use Rattle.ctrsim_cli.proofs.Shows.{joined_more, texts_last, One}
@@ -107,7 +109,7 @@ shown_part gained joins layout bytes left' old new so text shown =
     front.2 ∙ ap (λ (t : List ℕ). joined layout so.samples ++ t) behind.2
     ∙ sym (append_assoc (joined layout so.samples) (spelling layout so.last) behind.0)
     ∙ ap (λ (t : List ℕ). t ++ behind.0) (sym (joined_more layout so.samples so.last)) in
-    let more = is_prefix layout most xs shown.samples behind.0 shown.rest
+    let more = is_prefix layout MAX_SAMPLES xs shown.samples behind.0 shown.rest
     (All-append (One layout) so.samples (so.last ∷ []) so.went.spelled (All-cons (One layout) so.last [] so.fits (All-nil (One layout))))
     shown.spelled (sym whole ∙ shown.join) (omega (arith, so.few, length-append so.samples (so.last ∷ []))) shown.longest in
     let tail = texts_append layout 0 xs more.0 in
@@ -119,11 +121,11 @@ shown_part gained joins layout bytes left' old new so text shown =
 
 -- broken bytes begin with no spelling
 broken_stops : (layout : LayoutWords) (rest u : List ℕ) (f : SampleFault) → Breaks layout rest f u → (s : Sample) (x z : List ℕ) → Spells layout s x → rest ≡ x ++ z → ⊥
-broken_stops layout rest u f breaks s x z spells e = clash layout s x z u f spells (subst (λ (t : List ℕ). Breaks layout t f u) e breaks)
+broken_stops layout rest u f breaks s x z spells e = clash (sample_format layout) (samples_exact layout) s x z u f spells (subst (λ (t : List ℕ). Breaks layout t f u) e breaks)
 
 pub shown_up_to : {K : Type 0} (gained : K → List ℕ → K → Type 0) (layout : LayoutWords) (bytes rest : List ℕ) (middle : Option (List ℕ)) (old new : K) (samples : List Sample)
     → AreShown gained layout (Some bytes) middle old new samples → middle ≡ Some rest
-    → (length samples < most → (s : Sample) (x z : List ℕ) → Spells layout s x → rest ≡ x ++ z → ⊥)
+    → (length samples < MAX_SAMPLES → (s : Sample) (x z : List ℕ) → Spells layout s x → rest ≡ x ++ z → ⊥)
     → (text : List ℕ) × Shown layout bytes text × gained old text new
 shown_up_to gained layout bytes rest middle old new samples went is stops =
     let join : Consumes (Some bytes) (Some rest) (joined layout samples) = subst (λ m. Consumes (Some bytes) m (joined layout samples)) is went.taken in (
@@ -146,7 +148,7 @@ by_bytes layout rest None f p = absurd p
 by_bytes layout rest (Some u) f p = broken_stops layout rest u f p
 
 pub shown_refused : {K : Type 0} (gained : K → List ℕ → K → Type 0) (layout : LayoutWords) (bytes : List ℕ) (middle left' : Option (List ℕ)) (old new : K) (f : SampleFault)
-    (samples : List Sample) → AreShown gained layout (Some bytes) middle old new samples → (why : Cause) → Refuses why layout (length samples) middle left' f
+    (samples : List Sample) → AreShown gained layout (Some bytes) middle old new samples → (why : Cause) → Refuses why (sample_format layout) (length samples) middle left' f
     → ByCause why gained layout bytes old new
 shown_refused gained layout bytes middle left' old new f samples went OfRead refuses = tt
 shown_refused gained layout bytes middle left' old new f samples went OfCount refuses =
@@ -166,7 +168,7 @@ told_of gained joins layout bytes left' old new (Err (fault.Sample f at)) so =
 told_of gained joins layout bytes left' old new (Err fault.Write) so = shown_part gained joins layout bytes left' old new so
 
 -- what a failed read cut off begins with no spelling
-cut_stops : (layout : LayoutWords) (given : ℕ) (cut : List ℕ) → IsCutOff layout given cut → (s : Sample) (x z : List ℕ) → Spells layout s x → cut ≡ x ++ z → ⊥
+cut_stops : (layout : LayoutWords) (given : ℕ) (cut : List ℕ) → IsCutOff (sample_format layout) given cut → (s : Sample) (x z : List ℕ) → Spells layout s x → cut ≡ x ++ z → ⊥
 cut_stops layout given cut (inl none) s x z spells e = empty_join x z (spelled_some layout s x spells) (sym none ∙ e)
 cut_stops layout given cut (inr short) s x z spells e = broken_stops layout cut [] short.1 short.3 s x z spells e
 
@@ -196,7 +198,7 @@ cut_at gained layout left left' old new r so at e = cut_of gained layout at left
 -- that text is one
 pub one_text : (layout : LayoutWords) (bytes text other : List ℕ) → Shown layout bytes text → Shown layout bytes other → text ≡ other
 one_text layout bytes text other a b =
-    let more = is_prefix layout most a.samples b.samples a.rest b.rest a.spelled b.spelled (sym a.join ∙ b.join) a.few b.longest in
-    let less = is_prefix layout most b.samples a.samples b.rest a.rest b.spelled a.spelled (sym b.join ∙ a.join) b.few a.longest in
+    let more = is_prefix layout MAX_SAMPLES a.samples b.samples a.rest b.rest a.spelled b.spelled (sym a.join ∙ b.join) a.few b.longest in
+    let less = is_prefix layout MAX_SAMPLES b.samples a.samples b.rest a.rest b.spelled a.spelled (sym b.join ∙ a.join) b.few a.longest in
     let none : length more.0 ≡ 0 = omega (arith, ap length more.1, ap length less.1, length-append a.samples more.0, length-append b.samples less.0) in
     a.is ∙ ap (texts layout 0) (sym (more.1 ∙ ap (λ (t : List Sample). a.samples ++ t) (nil_from_length more.0 none) ∙ append-nil a.samples)) ∙ sym b.is

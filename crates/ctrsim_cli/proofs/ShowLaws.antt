@@ -8,13 +8,15 @@ use Rattle.ctr_port.specs.Counts.{Rose}
 use Rattle.ctr_port.specs.InHand.{Of}
 use Rattle.perf_sample.specs.Breaks.{Breaks}
 use Rattle.perf_sample.specs.Layout.{LayoutWords}
-use Rattle.perf_sample.specs.Reader.{most, Refuses}
-use Rattle.perf_sample.specs.Reading.{Cause, OfRead, OfCount, OfBytes, cause_of, is_read}
+use Rattle.perf_sample.specs.declared.limits.TheConstants.{MAX_SAMPLES}
+use Rattle.perf_sample.specs.Reader.{Refuses}
+use Rattle.perf_sample.specs.Format.{Cause, OfRead, OfCount, OfBytes}
+use Rattle.perf_sample.specs.Reading.{cause_of, is_read, sample_format}
 use Rattle.perf_sample.specs.Spelling.{spelling}
 use Rattle.perf_sample.specs.declared.faults.SampleFault.{SampleFault}
 use Rattle.perf_sample.specs.declared.faults.SampleFault.TheVariants as sample
 use Rattle.perf_sample.specs.declared.sample.Sample.{Sample}
-use Rattle.perf_sample.proofs.ExactLaws.{clash, spelled_some}
+use Rattle.perf_sample.proofs.ExactLaws.{clash}
 use Rattle.ctrsim_cli.specs.declared.fault.Fault.{Fault}
 use Rattle.ctrsim_cli.specs.declared.fault.Fault.TheVariants.{Usage, ReadFault, WriteFault, Memory}
 use Rattle.ctrsim_cli.specs.declared.fault.Fault.TheVariants.{Line, Sample as BadSample}
@@ -23,7 +25,7 @@ use Rattle.ctrsim_cli.specs.Performed.{ReadCause, WriteCause}
 use Rattle.ctrsim_cli.specs.ShowEnds.{ShowEnds}
 use Rattle.ctrsim_cli.specs.Showing.{joined, AreSpelled, Refused}
 use Rattle.ctrsim_cli.specs.Words.{IsRun, IsShow, IsDemo}
-use Rattle.perf_sample.proofs.OneSpelling.{one_spelling}
+use Rattle.perf_sample.proofs.OneSpelling.{one_spelling, samples_exact, spelled_some}
 use Rattle.ctrsim_cli.proofs.Longest.{joined_cons, joined_empty, cons_front, taken_told}
 use Rattle.ctrsim_cli.proofs.Shows.{One, joined_none}
 
@@ -89,7 +91,7 @@ no_break : (layout : LayoutWords) (ms : List Sample) (rest u : List ℕ) (f : Sa
     → AreSpelled layout ms → rest ≡ joined layout ms → Breaks layout rest f u → ⊥
 no_break layout [] rest u f spelled is breaks = breaks.some (is ∙ joined_none layout)
 no_break layout (m ∷ ms) rest u f spelled is breaks =
-    clash layout m (spelling layout m) (joined layout ms) u f
+    clash (sample_format layout) (samples_exact layout) m (spelling layout m) (joined layout ms) u f
     (All-head (One layout) m ms spelled).1
     (subst (λ (t : List ℕ). Breaks layout t f u) (is ∙ joined_cons layout m ms) breaks)
 
@@ -111,8 +113,8 @@ counted_of layout (m ∷ ms) rest left' is none p = absurd (omega (arith, none))
 not_refused : {K : Type 0} (gained : K → List ℕ → K → Type 0) (layout : LayoutWords)
     (left' : Option (List ℕ)) (old new : K) (f : SampleFault) (at : ℕ) (ys : List Sample) (why : Cause)
     (so : Refused gained layout (Some (joined layout ys)) left' old new f at)
-    → Refuses why layout (length so.samples) so.middle left' f → (why ≡ OfRead → ⊥)
-    → AreSpelled layout ys → length ys ≤ most → ⊥
+    → Refuses why (sample_format layout) (length so.samples) so.middle left' f → (why ≡ OfRead → ⊥)
+    → AreSpelled layout ys → length ys ≤ MAX_SAMPLES → ⊥
 not_refused gained layout left' old new f at ys OfRead so refuses other spelled few = other refl
 not_refused gained layout left' old new f at ys OfBytes so refuses other spelled few =
     let told = taken_told (joined layout ys) so.middle (joined layout so.samples) so.went.taken in
@@ -140,7 +142,7 @@ not_read sample.ReadFault other e = absurd (cc other)
 pub ends_shown : {K : Type 0} (gained : K → List ℕ → K → Type 0) (layout : LayoutWords)
     (left left' : Option (List ℕ)) (old new : K) (reads reads' writes writes' : ℕ)
     (fault : Option Fault) (ys : List Sample) → left ≡ Some (joined layout ys) → AreSpelled layout ys
-    → length ys ≤ most → ShowEnds gained layout left left' old new fault
+    → length ys ≤ MAX_SAMPLES → ShowEnds gained layout left left' old new fault
     → ReadCause reads reads' fault → WriteCause writes writes' fault → (Rose reads reads' → ⊥)
     → (Rose writes writes' → ⊥) → status_of fault ≡ 0
 ends_shown gained layout left left' old new r r' w w' None ys is spelled few so read write kept sent =

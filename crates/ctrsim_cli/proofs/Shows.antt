@@ -8,8 +8,11 @@ use Rattle.std.specs.Io.KnownBytes.{Consumes}
 use Rattle.perf_sample.specs.declared.sample.Sample.{Sample}
 use Rattle.perf_sample.specs.Layout.{LayoutWords}
 use Rattle.perf_sample.specs.Spelling.{spelling, Spells}
-use Rattle.perf_sample.specs.Range.{IsSample}
-use Rattle.perf_sample.specs.Reader.{Reader, most, fresh, after, IsNextAnswer}
+use Rattle.perf_sample.specs.Sample.{IsSample}
+use Rattle.perf_sample.specs.declared.faults.SampleFault.{SampleFault}
+use Rattle.perf_sample.specs.declared.limits.TheConstants.{MAX_SAMPLES}
+use Rattle.perf_sample.specs.Reader.{Reader, fresh, after, IsNextAnswer}
+use Rattle.perf_sample.specs.Reading.{sample_format}
 use Rattle.ctrsim_cli.specs.SampleText.{shown_sample}
 use Rattle.ctrsim_cli.specs.Showing.{joined, texts, AreShown}
 
@@ -52,7 +55,7 @@ pub texts_last : (layout : LayoutWords) (samples : List Sample) (s : Sample) →
 texts_last layout samples s = texts_more layout 0 samples s ∙ ap (λ (n : ℕ). texts layout 0 samples ++ shown_sample layout n s) (zero-add (length (joined layout samples)))
 
 -- a reader that has given these samples and refused nothing
-pub record Shows {K : Type 0} (gained : K → List ℕ → K → Type 0) (layout : LayoutWords) (left left' : Option (List ℕ)) (old new : K) (r : Reader) : Type 0 where
+pub record Shows {K : Type 0} (gained : K → List ℕ → K → Type 0) (layout : LayoutWords) (left left' : Option (List ℕ)) (old new : K) (r : Reader SampleFault) : Type 0 where
   pub samples : List Sample
   pub went : AreShown gained layout left left' old new samples
   pub layout_is : r.layout ≡ layout
@@ -71,7 +74,7 @@ went_none gained layout left old nothing = record {
 
 pub went_more : {K : Type 0} (gained : K → List ℕ → K → Type 0) → ((a b c : K) (x y : List ℕ) → gained a x b → gained b y c → gained a (x ++ y) c)
     → (layout : LayoutWords) (left middle left' : Option (List ℕ)) (old mid new : K) (samples : List Sample) (s : Sample) (bytes : List ℕ)
-    → AreShown gained layout left middle old mid samples → length samples < most → IsSample s → Spells layout s bytes → Consumes middle left' bytes
+    → AreShown gained layout left middle old mid samples → length samples < MAX_SAMPLES → IsSample s → Spells layout s bytes → Consumes middle left' bytes
     → gained mid (shown_sample layout (length (joined layout samples)) s) new
     → AreShown gained layout left left' old new (samples ++ s ∷ [])
 went_more gained joins layout left middle left' old mid new samples s bytes went few is spells took wrote =
@@ -86,31 +89,31 @@ went_more gained joins layout left middle left' old mid new samples s bytes went
     }
 
 -- before the first sample
-pub begins : {K : Type 0} (gained : K → List ℕ → K → Type 0) (layout : LayoutWords) (left : Option (List ℕ)) (old : K) (r : Reader) → gained old [] old → r ≡ fresh layout
+pub begins : {K : Type 0} (gained : K → List ℕ → K → Type 0) (layout : LayoutWords) (left : Option (List ℕ)) (old : K) (r : Reader SampleFault) → gained old [] old → r ≡ fresh layout
     → Shows gained layout left left old old r
 begins gained layout left old r nothing is = record {
   samples = [];
   went = went_none gained layout left old nothing;
-  layout_is = ap (λ (x : Reader). x.layout) is;
-  free = ap (λ (x : Reader). x.refused) is;
-  given = ap (λ (x : Reader). x.given) is;
-  taken = ap (λ (x : Reader). x.taken) is ∙ sym (ap length (joined_none layout));
+  layout_is = ap (λ (x : Reader SampleFault). x.layout) is;
+  free = ap (λ (x : Reader SampleFault). x.refused) is;
+  given = ap (λ (x : Reader SampleFault). x.given) is;
+  taken = ap (λ (x : Reader SampleFault). x.taken) is ∙ sym (ap length (joined_none layout));
 }
 
 -- one sample more
 pub goes_on : {K : Type 0} (gained : K → List ℕ → K → Type 0) → ((a b c : K) (x y : List ℕ) → gained a x b → gained b y c → gained a (x ++ y) c)
-    → (layout : LayoutWords) (left middle left' : Option (List ℕ)) (old mid new : K) (r r' : Reader) (s : Sample)
-    → Shows gained layout left middle old mid r → r' ≡ after r (Ok (Some s)) → IsNextAnswer r.layout r.given middle left' (Ok (Some s)) → IsSample s
+    → (layout : LayoutWords) (left middle left' : Option (List ℕ)) (old mid new : K) (r r' : Reader SampleFault) (s : Sample)
+    → Shows gained layout left middle old mid r → r' ≡ after (spelling r.layout) r (Ok (Some s)) → IsNextAnswer (sample_format r.layout) r.given middle left' (Ok (Some s)) → IsSample s
     → gained mid (shown_sample layout r'.offset s) new
     → Shows gained layout left left' old new r'
-goes_on gained joins layout left middle left' old mid new r r' s so is nexted range wrote =
-    let offset : r'.offset ≡ length (joined layout so.samples) = ap (λ (x : Reader). x.offset) is ∙ so.taken in
+goes_on gained joins layout left middle left' old mid new r r' s so is answer range wrote =
+    let offset : r'.offset ≡ length (joined layout so.samples) = ap (λ (x : Reader SampleFault). x.offset) is ∙ so.taken in
     record {
       samples = so.samples ++ s ∷ [];
-      went = went_more gained joins layout left middle left' old mid new so.samples s nexted.1 so.went (omega (arith, nexted.0, so.given)) range
-          (subst (λ l. Spells l s nexted.1) so.layout_is nexted.2) nexted.3 (subst (λ n. gained mid (shown_sample layout n s) new) offset wrote);
-      layout_is = ap (λ (x : Reader). x.layout) is ∙ so.layout_is;
-      free = ap (λ (x : Reader). x.refused) is ∙ so.free;
-      given = omega (arith, ap (λ (x : Reader). x.given) is, so.given, length-append so.samples (s ∷ []));
-      taken = ap (λ (x : Reader). x.taken) is ∙ omega (arith, so.taken, ap (λ (l : LayoutWords). length (spelling l s)) so.layout_is, length-append (joined layout so.samples) (spelling layout s)) ∙ sym (ap length (joined_more layout so.samples s));
+      went = went_more gained joins layout left middle left' old mid new so.samples s answer.1 so.went (omega (arith, answer.0, so.given)) range
+          (subst (λ l. Spells l s answer.1) so.layout_is answer.2) answer.3 (subst (λ n. gained mid (shown_sample layout n s) new) offset wrote);
+      layout_is = ap (λ (x : Reader SampleFault). x.layout) is ∙ so.layout_is;
+      free = ap (λ (x : Reader SampleFault). x.refused) is ∙ so.free;
+      given = omega (arith, ap (λ (x : Reader SampleFault). x.given) is, so.given, length-append so.samples (s ∷ []));
+      taken = ap (λ (x : Reader SampleFault). x.taken) is ∙ omega (arith, so.taken, ap (λ (l : LayoutWords). length (spelling l s)) so.layout_is, length-append (joined layout so.samples) (spelling layout s)) ∙ sym (ap length (joined_more layout so.samples s));
     }

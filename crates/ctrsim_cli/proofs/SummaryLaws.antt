@@ -5,7 +5,8 @@ use Rattle.std.specs.List.{flat_map}
 use Rattle.std.proofs.lemmas.List.Sums.{sum_by-cons}
 use Rattle.std.proofs.lemmas.List.Elements.{All-head, All-tail}
 use Rattle.std.proofs.lemmas.Grind.{fold-append}
-use Rattle.perf_sample.specs.Layout.{LayoutWords, all_fields, fields_in, fixed_len}
+use Rattle.perf_sample.specs.Layout.{LayoutWords, fields_in, fixed_len}
+use Rattle.perf_sample.specs.Fields.{all_fields}
 use Rattle.perf_sample.specs.Spelling.{le, spelling, size_of, header_bytes, fields_bytes, branch_bytes}
 use Rattle.perf_sample.specs.declared.sample.Branch.{Branch}
 use Rattle.perf_sample.specs.declared.sample.Sample.{Sample}

@@ -2,7 +2,7 @@
 use Rattle.std.specs.Prelude.{ℕ, zero, suc, ◌+◌, ◌*◌, ◌/◌, ◌%◌, List, [], ◌∷◌, ◌++◌, length}
 use Rattle.std.specs.Prelude.{replicate, Option, Some, None, codes}
 use Rattle.std.specs.List.{sum_by, flat_map}
-use Rattle.ctr_port.specs.Appended.{GainsPart}
+use Rattle.ctr_port.specs.Sink.{GainsPart}
 use Rattle.perf_sample.specs.declared.sample.Sample.{Sample}
 use Rattle.rv_hart.specs.Hart.{HartState}
 use Rattle.sched_text.specs.declared.schedule.Command.{Command}

@@ -1,6 +1,6 @@
 -- What holds when the word `show` was followed, by the fault.
 use Rattle.std.specs.Prelude.{◌≡◌, ℕ, false, List, Option, Some, None}
-use Rattle.ctr_port.specs.Appended.{GainsPart}
+use Rattle.ctr_port.specs.Sink.{GainsPart}
 use Rattle.perf_sample.specs.Layout.{LayoutWords}
 use Rattle.perf_sample.specs.Reading.{is_read}
 use Rattle.perf_sample.specs.declared.faults.SampleFault.TheVariants as sample_fault

@@ -4,14 +4,16 @@ use Rattle.std.specs.Prelude.{Result, Ok, Err}
 use Rattle.std.specs.List.{flat_map}
 use Rattle.std.specs.Io.KnownBytes.{Consumes}
 use Rattle.ctr_port.specs.InHand.{Of}
-use Rattle.ctr_port.specs.Appended.{GainsPart}
+use Rattle.ctr_port.specs.Sink.{GainsPart}
 use Rattle.perf_sample.specs.declared.sample.Sample.{Sample}
 use Rattle.perf_sample.specs.declared.faults.SampleFault.{SampleFault}
 use Rattle.perf_sample.specs.Layout.{LayoutWords}
 use Rattle.perf_sample.specs.Spelling.{spelling, Spells}
-use Rattle.perf_sample.specs.Range.{IsSample}
-use Rattle.perf_sample.specs.Reader.{most, Refuses}
-use Rattle.perf_sample.specs.Reading.{cause_of, Cause, OfRead, OfCount, OfBytes}
+use Rattle.perf_sample.specs.Sample.{IsSample}
+use Rattle.perf_sample.specs.declared.limits.TheConstants.{MAX_SAMPLES}
+use Rattle.perf_sample.specs.Reader.{Refuses}
+use Rattle.perf_sample.specs.Format.{Cause, OfRead, OfCount, OfBytes}
+use Rattle.perf_sample.specs.Reading.{cause_of, sample_format}
 use Rattle.perf_sample.specs.declared.faults.SampleFault.TheVariants as sample_fault
 use Rattle.ctrsim_cli.specs.SampleText.{shown_sample}
 use Rattle.ctrsim_cli.specs.declared.showing.ShowFault.{ShowFault}
@@ -37,9 +39,9 @@ pub record Shown (layout : LayoutWords) (bytes : List ℕ) (text : List ℕ) : T
   pub samples : List Sample
   pub rest : List ℕ
   pub spelled : AreSpelled layout samples
-  pub few : length samples ≤ most
+  pub few : length samples ≤ MAX_SAMPLES
   pub join : bytes ≡ joined layout samples ++ rest
-  pub longest : length samples < most → (s : Sample) (x z : List ℕ) → IsSample s →
+  pub longest : length samples < MAX_SAMPLES → (s : Sample) (x z : List ℕ) → IsSample s →
       Spells layout s x → rest ≡ x ++ z → ⊥
   pub is : text ≡ texts layout 0 samples
 
@@ -47,7 +49,7 @@ pub record Shown (layout : LayoutWords) (bytes : List ℕ) (text : List ℕ) : T
 pub record AreShown {K : Type 0} (gained : K → List ℕ → K → Type 0) (layout : LayoutWords)
     (left left' : Option (List ℕ)) (old new : K) (samples : List Sample) : Type 0 where
   pub spelled : AreSpelled layout samples
-  pub few : length samples ≤ most
+  pub few : length samples ≤ MAX_SAMPLES
   pub taken : Consumes left left' (joined layout samples)
   pub written : gained old (texts layout 0 samples) new
 
@@ -65,7 +67,8 @@ pub record Refused {K : Type 0} (gained : K → List ℕ → K → Type 0) (layo
   pub samples : List Sample
   pub middle : Option (List ℕ)
   pub went : AreShown gained layout left middle old new samples
-  pub refuses : Refuses (cause_of f) layout (length samples) middle left' f
+  pub refuses :
+      Refuses (cause_of f) (sample_format layout) (length samples) middle left' f
   pub at : offset ≡ length (joined layout samples)
 
 -- the sink failed inside the text of the last sample
@@ -73,7 +76,7 @@ pub record Unwritten {K : Type 0} (gained : K → List ℕ → K → Type 0) (la
     (left left' : Option (List ℕ)) (old new : K) : Type 0 where
   pub samples : List Sample
   pub last : Sample
-  pub few : length samples < most
+  pub few : length samples < MAX_SAMPLES
   pub middle : K
   pub before : Option (List ℕ)
   pub went : AreShown gained layout left before old middle samples

@@ -2,7 +2,7 @@
 
 ghost use Rattle.std.specs.Prelude.{◌≡◌, ◌≤◌, ℕ, OnOk, OnErr, Err, List, Some};
 ghost use Rattle.ctr_port.specs.Counts.{Rose};
-ghost use Rattle.ctr_port.specs.Appended.{GainsPart};
+ghost use Rattle.ctr_port.specs.Sink.{GainsPart};
 ghost use Rattle.ctrsim_cli.specs.SampleText.{shown_sample};
 ghost use Rattle.ctrsim_cli.specs.Showing.{ShowAnswer, BytesAnswer, CutAt};
 ghost use Rattle.perf_sample.specs.declared.faults.SampleFault.{SampleFault};

@@ -13,7 +13,7 @@ ghost use Rattle.ctrsim_cli.specs.ShowEnds.{ShowEnds, ShowsBytes};
 ghost use Rattle.ctrsim_cli.specs.Showing.{AreSpelled, joined};
 ghost use Rattle.ctrsim_cli.specs.Words.{IsRun, IsShow, IsDemo, IsKnown};
 ghost use Rattle.perf_sample.specs.Layout.{LayoutWords};
-ghost use Rattle.perf_sample.specs.Reader.{most};
+ghost use Rattle.perf_sample.specs.declared.limits.TheConstants.{MAX_SAMPLES};
 ghost use Rattle.perf_sample.specs.declared.sample.Sample.{Sample};
 ghost use Rattle.ctrsim_cli.specs.Performed.{SaidPart};
 
@@ -117,7 +117,7 @@ pub fn ctrsim<S: Source, K: Sink, N: Sink>(
         (Rose (K.faults sink.old) (K.faults sink.new) → ⊥) →
         (result.fault ≡ Some (Fault.Line f)) ⊎ (result.fault ≡ Some Fault.Memory) }
     ensures all_shown { (layout : LayoutWords) (samples : List Sample) → IsShow words.now layout →
-        AreSpelled layout samples → length samples ≤ most →
+        AreSpelled layout samples → length samples ≤ MAX_SAMPLES →
         S.left source.old ≡ Some (joined layout samples) →
         (Rose (S.faults source.old) (S.faults source.new) → ⊥) →
         (Rose (K.faults sink.old) (K.faults sink.new) → ⊥) → result.status ≡ 0 }

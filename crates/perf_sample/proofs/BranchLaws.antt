@@ -7,21 +7,21 @@ use Rattle.std.specs.Io.KnownBytes.{Consumes}
 use Rattle.perf_sample.specs.declared.sample.Branch.{Branch}
 use Rattle.perf_sample.specs.Layout.{LayoutWords, fixed_len, FlagsFit}
 use Rattle.ctr_port.specs.InHand.{Of}
-use Rattle.ctr_port.proofs.Laws.{taken_then}
+use Rattle.ctr_port.proofs.PieceLaws.{taken_then}
 use Rattle.perf_sample.specs.Spelling.{le, branch_bytes}
 use Rattle.perf_sample.specs.Breaks.{number_at, At, first_of, branch_fields, unless}
-use Rattle.perf_sample.specs.Reading.{cut_at, Stopped}
+use Rattle.perf_sample.specs.Reading.{sample_faults, cut_at, Stopped}
 use Rattle.perf_sample.specs.declared.faults.SampleFault.{SampleFault}
 use Rattle.perf_sample.specs.declared.faults.SampleFault.TheVariants as fault
 use Rattle.perf_sample.specs.declared.faults.Place.TheVariants as place
 use Rattle.perf_sample.proofs.BreakLaws.{cut_first, passes, stops, early, length_le, number_read}
-use Rattle.perf_sample.proofs.ReadingLaws.{stopped_after, stopped_as, of_taken}
+use Rattle.perf_sample.proofs.ReadingLaws.{stops_after, stops_as, of_taken}
 
 pub from_stops : (a b : Option (List ℕ)) (i : ℕ) (f : SampleFault) → Stopped (cut_at (At (place.From i))) a b f
     → (layout : LayoutWords) (size : ℕ) → Stopped (first_of layout size (branch_fields i 1)) a b f
 unfolding branch_fields
 from_stops a b i f h layout size =
-    stopped_as a b (cut_at (At (place.From i))) (first_of layout size (branch_fields i 1)) f
+    stops_as sample_faults a b (cut_at (At (place.From i))) (first_of layout size (branch_fields i 1)) f
     (λ z r e. cut_first layout size (At (place.From i)) (At (place.To i) ∷ At (place.Flags i) ∷ []) z r e) h
 
 -- what follows from of a branch
@@ -38,13 +38,13 @@ behind_to layout size i from to z =
 pub to_stops : (a b c : Option (List ℕ)) (i from : ℕ) (f : SampleFault) → Consumes a b (le 8 from) → Stopped (cut_at (At (place.To i))) b c f
     → (layout : LayoutWords) (size : ℕ) → Stopped (first_of layout size (branch_fields i 1)) a c f
 to_stops a b c i from f took h layout size =
-    stopped_after a b c (le 8 from) (cut_at (At (place.To i))) (first_of layout size (branch_fields i 1)) f took
+    stops_after sample_faults a b c (le 8 from) (cut_at (At (place.To i))) (first_of layout size (branch_fields i 1)) f took
     (λ z r e. behind_from layout size i from z ∙ cut_first layout size (At (place.To i)) (At (place.Flags i) ∷ []) z r e) h
 
 pub flags_stop : (a b c d : Option (List ℕ)) (i from to : ℕ) (f : SampleFault) → Consumes a b (le 8 from) → Consumes b c (le 8 to) → Stopped (cut_at (At (place.Flags i))) c d f
     → (layout : LayoutWords) (size : ℕ) → Stopped (first_of layout size (branch_fields i 1)) a d f
 flags_stop a b c d i from to f first then h layout size =
-    stopped_after a c d (le 8 from ++ le 8 to) (cut_at (At (place.Flags i))) (first_of layout size (branch_fields i 1)) f (taken_then a b c (le 8 from) (le 8 to) first then)
+    stops_after sample_faults a c d (le 8 from ++ le 8 to) (cut_at (At (place.Flags i))) (first_of layout size (branch_fields i 1)) f (taken_then a b c (le 8 from) (le 8 to) first then)
     (λ z r e. behind_to layout size i from to z ∙ cut_first layout size (At (place.Flags i)) [] z r e) h
 
 -- a reserved flag
@@ -98,7 +98,7 @@ branches_stop a b c nr i bs f within len fit took h layout size =
     let n = nr - (i + 1) in
     let count : length bs + suc n ≡ nr = omega (arith, len, within) in
     let here : 0 + length bs ≡ i = omega (arith, len) in
-    stopped_after a b c (flat_map branch_bytes bs) (first_of layout size (branch_fields i 1)) (first_of layout size (branch_fields 0 nr)) f took
+    stops_after sample_faults a b c (flat_map branch_bytes bs) (first_of layout size (branch_fields i 1)) (first_of layout size (branch_fields 0 nr)) f took
     (λ z r e.
     ap (λ (k : ℕ). first_of layout size (branch_fields 0 k) (flat_map branch_bytes bs ++ z)) (sym count)
     ∙ branches_pass layout size 0 (suc n) bs z fit
@@ -121,4 +121,4 @@ pub nr_wrong : (layout : LayoutWords) (size nr : ℕ) (a b : Option (List ℕ)) 
 nr_wrong layout size nr a b small few wrong took = nr_stops layout size nr a b fault.Size small (rw (le-leb nr 256 few, ne_eqb size (fixed_len layout + 24 * nr) wrong) refl) took
 
 pub nr_cut : (layout : LayoutWords) (size : ℕ) (a b : Option (List ℕ)) (f : SampleFault) → Stopped (cut_at (At place.Nr)) a b f → Stopped (first_of layout size (At place.Nr ∷ [])) a b f
-nr_cut layout size a b f h = stopped_as a b (cut_at (At place.Nr)) (first_of layout size (At place.Nr ∷ [])) f (λ z r e. cut_first layout size (At place.Nr) [] z r e) h
+nr_cut layout size a b f h = stops_as sample_faults a b (cut_at (At place.Nr)) (first_of layout size (At place.Nr ∷ [])) f (λ z r e. cut_first layout size (At place.Nr) [] z r e) h

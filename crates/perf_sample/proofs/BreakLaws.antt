@@ -24,7 +24,7 @@ unfolding first_of
 cut_first layout size field fields bytes r e =
     cut_first_by (nat_lt (length bytes) 8) field (drop 8 bytes) (wrong_in layout size field bytes) (first_of layout size fields (drop 8 bytes)) r e
 
-long : (y z : List ℕ) → length y ≡ 8 → nat_lt (length (y ++ z)) 8 ≡ false
+pub long : (y z : List ℕ) → length y ≡ 8 → nat_lt (length (y ++ z)) 8 ≡ false
 long y z e = le-ltb (length (y ++ z)) 8 (omega (arith, e, length-append y z))
 
 pub behind : (y z : List ℕ) (n : ℕ) → length y ≡ n → drop n (y ++ z) ≡ z

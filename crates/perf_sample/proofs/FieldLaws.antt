@@ -5,15 +5,17 @@ use Rattle.std.proofs.lemmas.Grind.{flat_map-append}
 use Rattle.std.proofs.lemmas.List.{take_more}
 use Rattle.std.specs.List.{AllByRecursion}
 use Rattle.perf_sample.specs.declared.sample.Sample.{Sample}
-use Rattle.perf_sample.specs.declared.words.Word.{Word}
-use Rattle.perf_sample.specs.declared.words.Word.TheVariants as word
+use Rattle.perf_sample.specs.declared.word.Word.{Word}
+use Rattle.perf_sample.specs.declared.word.Word.TheVariants as word
 use Rattle.perf_sample.specs.declared.faults.Place.{Place}
 use Rattle.perf_sample.specs.declared.faults.Place.TheVariants as place
-use Rattle.perf_sample.specs.Words.{word_of, IsZero, InWidth}
-use Rattle.perf_sample.specs.Layout.{LayoutWords, has, before_nr, all_fields, fields_in, LeftOut}
+use Rattle.perf_sample.specs.Word.{IsZero, InWidth}
+use Rattle.perf_sample.specs.Fields.{word_of}
+use Rattle.perf_sample.specs.Layout.{LayoutWords, has, fields_in, LeftOut}
+use Rattle.perf_sample.specs.Fields.{before_nr, all_fields}
 use Rattle.perf_sample.specs.Spelling.{le, word_bytes, place_bytes, fields_bytes}
 use Rattle.perf_sample.specs.Breaks.{Field, At, wrong_in, first_of}
-use Rattle.perf_sample.specs.Rows.{SameWord}
+use Rattle.perf_sample.specs.Front.{SameWord}
 use Rattle.perf_sample.proofs.BreakLaws.{passes, length_le}
 
 pub length_word : (w : Word) → length (word_bytes w) ≡ 8
@@ -190,3 +192,9 @@ widths_kept p old new (q ∷ ps) small (here, more) (first, rest) = (
   ],
   widths_kept p old new ps small more rest,
 )
+
+-- what holds of some fields and of others holds of both
+pub all_of_both : (P : Place → Type 0) (ps qs : List Place) → AllByRecursion P ps
+    → AllByRecursion P qs → AllByRecursion P (ps ++ qs)
+all_of_both P [] qs none more = more
+all_of_both P (p ∷ ps) qs (here, rest) more = (here, all_of_both P ps qs rest more)

@@ -1,24 +1,33 @@
 -- Bytes begin with the spelling of one sample at most, and then they have no break.
-use Rattle.std.proofs.Common.{◌≡◌, ℕ, ◌+◌, ◌*◌, ◌-◌, ◌%◌, ◌^◌, ◌<◌, ◌≤◌, List, [], ◌∷◌, ◌++◌, length, take, drop, Bool, true, false, if◌then◌else◌, nat_le, nat_eq, None, refl, sym, ap, ◌∙◌, arith, append_assoc, length-append}
+use Rattle.std.proofs.Common.{rules, ◌≡◌, ℕ, ◌+◌, ◌*◌, ◌-◌, ◌%◌, ◌^◌, ◌<◌, ◌≤◌, List, [], ◌∷◌, ◌++◌, length, take, drop, Bool, true, false, if◌then◌else◌, nat_le, nat_eq, None, refl, sym, ap, ◌∙◌, arith, append_assoc, length-append}
 use Rattle.std.proofs.Math.Seq.{take-append_seam, drop-append_seam}
 use Rattle.std.proofs.lemmas.Bool.{le-leb, eq-eqb, true≢false}
 use Rattle.std.proofs.lemmas.List.Elements.{All-head, All-tail}
 use Rattle.std.specs.List.{All, AllByRecursion, flat_map}
 use Rattle.perf_sample.specs.declared.sample.Branch.{Branch}
 use Rattle.perf_sample.specs.declared.sample.Sample.{Sample}
-use Rattle.perf_sample.specs.Layout.{LayoutWords, has, all_fields, fields_in, fixed_len, LeftOut, Fits}
-use Rattle.perf_sample.specs.Words.{word_of, IsZero, InWidth}
+use Rattle.perf_sample.specs.Layout.{LayoutWords, has, fields_in, fixed_len, LeftOut, Fits}
+use Rattle.perf_sample.specs.Fields.{all_fields}
+use Rattle.perf_sample.specs.Word.{IsZero, InWidth}
+use Rattle.perf_sample.specs.Fields.{word_of}
 use Rattle.perf_sample.specs.Spelling.{le, word_bytes, place_bytes, fields_bytes, header_bytes, branch_bytes, size_of, spelling, Spells}
-use Rattle.perf_sample.specs.Breaks.{number_at, is_size, first_of, first_break, branch_fields}
+use Rattle.perf_sample.specs.Breaks.{number_at, is_size, first_break}
+use Rattle.perf_sample.specs.Format.{OfRead, OfCount}
+use Rattle.perf_sample.specs.Reading.{cause_of, sample_format}
+use Rattle.perf_sample.specs.declared.faults.SampleFault.{SampleFault}
+use Rattle.perf_sample.specs.declared.faults.SampleFault.TheVariants as fault
+use Rattle.perf_sample.proofs.ExactLaws.{IsExact}
 use Rattle.perf_sample.specs.BranchRange.{IsBranch}
-use Rattle.perf_sample.specs.Range.{IsSample}
-use Rattle.perf_sample.specs.Rows.{low_of, high_of, SameWord}
-use Rattle.perf_sample.specs.declared.words.Word.{Word}
-use Rattle.perf_sample.specs.declared.words.Word.TheVariants as word
+use Rattle.perf_sample.specs.Sample.{IsSample}
+use Rattle.perf_sample.specs.Front.{SameWord}
+use Rattle.perf_sample.specs.Fields.{low_of, high_of}
+use Rattle.perf_sample.specs.declared.word.Word.{Word}
+use Rattle.perf_sample.specs.declared.word.Word.TheVariants as word
 use Rattle.perf_sample.specs.declared.faults.Place.{Place}
 use Rattle.perf_sample.proofs.BreakLaws.{length_le, number_read}
-use Rattle.perf_sample.proofs.BranchLaws.{branches_pass}
-use Rattle.perf_sample.proofs.SampleLaws.{with_nr, index_bytes, behind_index, spelling_parts}
+use Rattle.perf_sample.specs.Back.{back_bytes}
+use Rattle.perf_sample.proofs.PartLaws.{back_passes}
+use Rattle.perf_sample.proofs.SampleLaws.{up_to_nr, behind_front, spelling_is}
 use Rattle.perf_sample.proofs.FieldLaws.{length_word, length_fields}
 use Rattle.perf_sample.proofs.SpellingLaws.{length_branches, length_spelling, fixed_most, size_at, length_told, size_stays}
 
@@ -32,33 +41,30 @@ right_size layout nr few =
     rw (low, high, whole) refl
 
 -- a spelling has no break
-pub spelled_whole : (layout : LayoutWords) (s : Sample) (x z : List ℕ) → Spells layout s x → first_break layout (x ++ z) ≡ None
-unfolding first_of branch_fields
+pub spelled_whole : (layout : LayoutWords) (s : Sample) (x z : List ℕ) → Spells layout s x
+    → first_break layout (x ++ z) ≡ None
 spelled_whole layout s x z spells =
-    let bs = s.branches in
-    let nr = length bs in
     let size = size_of layout s in
-    let y = with_nr layout s.misc size nr s ++ index_bytes layout s in
+    let up = up_to_nr layout s.misc size s in
     let small : size < 2 ^ 16 = omega (arith, fixed_most layout, spells.few) in
-    let count : nr ≡ nr + 0 = omega arith in
-    ap (λ (b : List ℕ). first_break layout (b ++ z)) (spells.bytes_are ∙ spelling_parts layout s)
-    ∙ ap (first_break layout) (append_assoc y (flat_map branch_bytes bs) z)
-    ∙ behind_index layout s.misc size nr s s (flat_map branch_bytes bs ++ z) small (right_size layout nr spells.few) spells.few refl
-    ∙ ap (λ (n : ℕ). first_of layout size (branch_fields 0 n) (flat_map branch_bytes bs ++ z)) count
-    ∙ branches_pass layout size 0 0 bs z spells.fits.flags
+    ap (λ (b : List ℕ). first_break layout (b ++ z)) (spells.bytes_are ∙ spelling_is layout s)
+    ∙ ap (first_break layout) (append_assoc up (back_bytes layout s) z)
+    ∙ behind_front layout s.misc size s (back_bytes layout s ++ z) small
+    (right_size layout (length s.branches) spells.few)
+    ∙ back_passes layout s z spells.few spells.fits.flags
 
 -- parts of the same length at the front, or at the back
-cut_front : (a b c d : List ℕ) → length a ≡ length b → a ++ c ≡ b ++ d → (a ≡ b) × (c ≡ d)
+pub cut_front : (a b c d : List ℕ) → length a ≡ length b → a ++ c ≡ b ++ d → (a ≡ b) × (c ≡ d)
 cut_front a b c d len e = (
   sym (take-append_seam a c) ∙ ap (take (length a)) e ∙ ap (λ (n : ℕ). take n (b ++ d)) len ∙ take-append_seam b d,
   sym (drop-append_seam a c) ∙ ap (drop (length a)) e ∙ ap (λ (n : ℕ). drop n (b ++ d)) len ∙ drop-append_seam b d,
 )
 
-cut_back : (a b c d : List ℕ) → length c ≡ length d → a ++ c ≡ b ++ d → (a ≡ b) × (c ≡ d)
+pub cut_back : (a b c d : List ℕ) → length c ≡ length d → a ++ c ≡ b ++ d → (a ≡ b) × (c ≡ d)
 cut_back a b c d len e = cut_front a b c d (omega (arith, len, ap length e, length-append a c, length-append b d)) e
 
 -- numbers with the same bytes
-le_same : (k m n : ℕ) → m < 256 ^ k → n < 256 ^ k → le k m ≡ le k n → m ≡ n
+pub le_same : (k m n : ℕ) → m < 256 ^ k → n < 256 ^ k → le k m ≡ le k n → m ≡ n
 le_same k m n hm hn e = sym (number_read k m [] hm) ∙ ap (λ (b : List ℕ). number_at 0 k (b ++ [])) e ∙ number_read k n [] hn
 
 -- words of the same form, told by their bytes
@@ -193,7 +199,7 @@ spelling_same layout s t f g is it few less e =
     let second = cut_back h_s h_t (fields_bytes s all) (fields_bytes t all) (length_fields s all ∙ sym (length_fields t all)) last.0 in
     let first = cut_back (le 4 9 ++ le 2 s.misc) (le 4 9 ++ le 2 t.misc) (le 2 size) (le 2 other) (length_le 2 size ∙ sym (length_le 2 other)) second.0 in
     let misc = cut_front (le 4 9) (le 4 9) (le 2 s.misc) (le 2 t.misc) refl first.0 in
-    let forms : AllByRecursion (SameForm s t) all_fields = (refl, (refl, (refl, (refl, (refl, (refl, (refl, (refl, (refl, (refl, (refl, tt))))))))))) in
+    let forms : AllByRecursion (SameForm s t) all_fields = search rules in
     sample_same s t (le_same 2 s.misc t.misc is.misc it.misc misc.1) (words_same layout s t all_fields forms f.left_out g.left_out is.fields it.fields second.1)
     (branches_same s.branches t.branches counts is.branches it.branches last.1)
 
@@ -211,3 +217,43 @@ pub one_spelling : (layout : LayoutWords) (s t : Sample) (x y z w : List ℕ) �
 one_spelling layout s t x y z w is it first second e =
     let parts = one_length layout s t x y z w first second e in
     (spelling_same layout s t first.fits second.fits is it first.few second.few (sym first.bytes_are ∙ parts.0 ∙ second.bytes_are), parts.0, parts.1)
+
+of_read : (f : SampleFault) → cause_of f ≡ OfRead → f ≡ fault.ReadFault
+of_read fault.ReadFault e = refl
+of_read fault.Header e = absurd cc
+of_read fault.Kind e = absurd cc
+of_read fault.Size e = absurd cc
+of_read (fault.Short p) e = absurd cc
+of_read fault.CpuReserved e = absurd cc
+of_read fault.Count e = absurd cc
+of_read (fault.FlagReserved i) e = absurd cc
+of_read fault.TooMany e = absurd cc
+
+of_count : (f : SampleFault) → cause_of f ≡ OfCount → f ≡ fault.TooMany
+of_count fault.TooMany e = refl
+of_count fault.Header e = absurd cc
+of_count fault.Kind e = absurd cc
+of_count fault.Size e = absurd cc
+of_count (fault.Short p) e = absurd cc
+of_count fault.CpuReserved e = absurd cc
+of_count fault.Count e = absurd cc
+of_count (fault.FlagReserved i) e = absurd cc
+of_count fault.ReadFault e = absurd cc
+
+pub spelled_some : (layout : LayoutWords) (s : Sample) (x : List ℕ) → Spells layout s x
+    → 0 < length x
+unfolding fixed_len
+spelled_some layout s x spells =
+    omega (arith, ap length spells.bytes_are, length_spelling layout s)
+
+-- samples are told apart
+pub samples_exact : (layout : LayoutWords) → IsExact (sample_format layout)
+samples_exact layout = record {
+  kinds = record { of_read = of_read; of_count = of_count };
+  some = spelled_some layout;
+  whole = spelled_whole layout;
+  one_length = λ s t x y z w first second e.
+      (one_length layout s t x y z w first second e).0;
+  one = λ s t x y z w is it first second e.
+      (one_spelling layout s t x y z w is it first second e).0;
+}

@@ -1,11 +1,13 @@
 -- Bytes taken from a source, and how reading stops.
-use Rattle.std.proofs.Common.{◌≡◌, ℕ, ◌+◌, ◌-◌, ◌≤◌, ◌<◌, min, lt-ltb, List, [], ◌++◌, length, take, drop, arith, length-append, Option, None, Some, refl, sym, ap, ◌∙◌, subst}
+use Rattle.std.proofs.Common.{◌≡◌, ℕ, ◌+◌, ◌-◌, ◌≤◌, ◌<◌, min, lt-ltb, List, [], ◌++◌, length, take, drop, arith, length-append, Option, None, Some, inr, refl, sym, ap, ◌∙◌, subst}
 use Rattle.std.specs.Io.KnownBytes.{Consumes, Keeps}
 use Rattle.std.proofs.lemmas.List.{length-take, length-take-le, length-drop, drop_all}
 use borrow.Rule.Slice.PartMut.{put_mid, post_of}
 use Rattle.ctr_port.specs.InHand.{Of}
-use Rattle.ctr_port.proofs.Laws.{taken_nothing, taken_then}
-use Rattle.perf_sample.specs.Reading.{Cause, OfRead, OfCount, OfBytes, cause_of, StoppedBy, Stopped, cut_at, IsCut}
+use Rattle.ctr_port.proofs.PieceLaws.{taken_nothing, taken_then}
+use Rattle.perf_sample.specs.Format.{Cause, OfRead, OfCount, OfBytes, FaultKinds, Break, StoppedBy, Stops, IsCut, BreaksBy, BrokeBy, Broke}
+use Rattle.perf_sample.specs.Reading.{sample_faults, cut_at}
+use Rattle.perf_sample.proofs.BreakLaws.{not_empty}
 use Rattle.perf_sample.specs.declared.faults.SampleFault.{SampleFault}
 use Rattle.perf_sample.specs.declared.faults.SampleFault.TheVariants as fault
 use Rattle.perf_sample.specs.declared.faults.Place.{Place}
@@ -35,27 +37,58 @@ read_length at k buf ys within room len =
     omega (arith, within, room, len, part, all, ap length none, length-take-le at buf within, length-append front (ys ++ rest), length-append ys rest)
 
 -- bytes that are cut short within what follows others are cut short
-stopped_by : (s : Cause) (a b c : Option (List ℕ)) (y : List ℕ) (p q : List ℕ → Option (SampleFault × List ℕ)) (f : SampleFault) → Consumes a b y
-    → ((z : List ℕ) (r : SampleFault × List ℕ) → p z ≡ Some r → q (y ++ z) ≡ Some r) → StoppedBy s p b c f → StoppedBy s q a c f
-stopped_by OfCount a b c y p q f took all h = absurd h
-stopped_by OfRead a b c y p q f took all (x, then, (g, short, e)) = (y ++ x, taken_then a b c y x took then, (g, short, all x (g, []) e))
-stopped_by OfBytes None b c y p q f took all h = tt
-stopped_by OfBytes (Some t) None c y p q f took all h = absurd took
-stopped_by OfBytes (Some t) (Some u) None y p q f took all h = absurd h
-stopped_by OfBytes (Some t) (Some u) (Some v) y p q f took all h = rw took (all u (f, v) h)
+stops_by : {F : Type 0} (kinds : FaultKinds F) (s : Cause) (a b c : Option (List ℕ)) (y : List ℕ)
+    (p q : List ℕ → Break F) (f : F) → Consumes a b y
+    → ((z : List ℕ) (r : F × List ℕ) → p z ≡ Some r → q (y ++ z) ≡ Some r)
+    → StoppedBy kinds s p b c f → StoppedBy kinds s q a c f
+stops_by kinds OfCount a b c y p q f took all h = absurd h
+stops_by kinds OfRead a b c y p q f took all (x, then, (g, short, e)) =
+    (y ++ x, taken_then a b c y x took then, (g, short, all x (g, []) e))
+stops_by kinds OfBytes None b c y p q f took all h = tt
+stops_by kinds OfBytes (Some t) None c y p q f took all h = absurd took
+stops_by kinds OfBytes (Some t) (Some u) None y p q f took all h = absurd h
+stops_by kinds OfBytes (Some t) (Some u) (Some v) y p q f took all h = rw took (all u (f, v) h)
 
 -- reading stopped in fields that follow others
-pub stopped_after : (a b c : Option (List ℕ)) (y : List ℕ) (p q : List ℕ → Option (SampleFault × List ℕ)) (f : SampleFault) → Consumes a b y
-    → ((z : List ℕ) (r : SampleFault × List ℕ) → p z ≡ Some r → q (y ++ z) ≡ Some r) → Stopped p b c f → Stopped q a c f
-stopped_after a b c y p q f took all h = stopped_by (cause_of f) a b c y p q f took all h
+pub stops_after : {F : Type 0} (kinds : FaultKinds F) (a b c : Option (List ℕ)) (y : List ℕ)
+    (p q : List ℕ → Break F) (f : F) → Consumes a b y
+    → ((z : List ℕ) (r : F × List ℕ) → p z ≡ Some r → q (y ++ z) ≡ Some r)
+    → Stops kinds p b c f → Stops kinds q a c f
+stops_after kinds a b c y p q f took all h =
+    stops_by kinds (kinds.cause_of f) a b c y p q f took all h
 
 -- the same where nothing comes before
-pub stopped_as : (a b : Option (List ℕ)) (p q : List ℕ → Option (SampleFault × List ℕ)) (f : SampleFault)
-    → ((z : List ℕ) (r : SampleFault × List ℕ) → p z ≡ Some r → q z ≡ Some r) → Stopped p a b f → Stopped q a b f
-stopped_as a b p q f all h = stopped_after a a b [] p q f (taken_nothing a) all h
+pub stops_as : {F : Type 0} (kinds : FaultKinds F) (a b : Option (List ℕ)) (p q : List ℕ → Break F)
+    (f : F) → ((z : List ℕ) (r : F × List ℕ) → p z ≡ Some r → q z ≡ Some r)
+    → Stops kinds p a b f → Stops kinds q a b f
+stops_as kinds a b p q f all h = stops_after kinds a a b [] p q f (taken_nothing a) all h
+
+-- and in fields of one record that follow others of it
+broke_by : {F : Type 0} (kinds : FaultKinds F) (s : Cause) (a b c : Option (List ℕ)) (y : List ℕ)
+    (p q : List ℕ → Break F) (f : F) → 0 < length y → Consumes a b y
+    → ((z : List ℕ) (r : F × List ℕ) → p z ≡ Some r → q (y ++ z) ≡ Some r)
+    → StoppedBy kinds s p b c f → BrokeBy kinds s q a c f
+broke_by kinds OfCount a b c y p q f some took all h = absurd h
+broke_by kinds OfRead a b c y p q f some took all (x, next, (g, short, e)) = (
+  y ++ x,
+  taken_then a b c y x took next,
+  inr (g, short, record { some = not_empty y x some; first = all x (g, []) e }),
+)
+broke_by kinds OfBytes None b c y p q f some took all h = tt
+broke_by kinds OfBytes (Some t) None c y p q f some took all h = absurd took
+broke_by kinds OfBytes (Some t) (Some u) None y p q f some took all h = absurd h
+broke_by kinds OfBytes (Some t) (Some u) (Some v) y p q f some took all h =
+    rw took (record { some = not_empty y u some; first = all u (f, v) h })
+
+pub broke_after : {F : Type 0} (kinds : FaultKinds F) (a b c : Option (List ℕ)) (y : List ℕ)
+    (p q : List ℕ → Break F) (f : F) → 0 < length y → Consumes a b y
+    → ((z : List ℕ) (r : F × List ℕ) → p z ≡ Some r → q (y ++ z) ≡ Some r)
+    → Stops kinds p b c f → Broke kinds q a c f
+broke_after kinds a b c y p q f some took all h =
+    broke_by kinds (kinds.cause_of f) a b c y p q f some took all h
 
 -- a read that failed in a field
-pub cut_short : (a b : Option (List ℕ)) (p : Place) → ((x : List ℕ) × (length x < 8) × Consumes a b x) → (x : List ℕ) × Consumes a b x × IsCut (cut_at (At p)) x
+pub cut_short : (a b : Option (List ℕ)) (p : Place) → ((x : List ℕ) × (length x < 8) × Consumes a b x) → (x : List ℕ) × Consumes a b x × IsCut sample_faults (cut_at (At p)) x
 cut_short a b p (x, short, took) =
     (x, took, (fault.Short p, refl, rw (lt-ltb (length x) 8 short) (ap (λ (t : List ℕ). Some (fault.Short p, t)) (drop_all 8 x (omega (arith, short))))))
 

@@ -1,25 +1,28 @@
 -- The fields between the header and the branches, read one by one.
-use Rattle.std.proofs.Common.{◌≡◌, ℕ, zero, suc, ◌+◌, ◌^◌, ◌<◌, List, [], ◌∷◌, ◌++◌, map, length, take, drop, get_or, Option, Some, Result, Ok, Err, refl, sym, ap, ◌∙◌, subst, arith, inl, inr, append_assoc, append-nil, length-append, true, false}
+use Rattle.std.proofs.Common.{rules, ◌≡◌, ℕ, zero, suc, ◌+◌, ◌^◌, ◌<◌, List, [], ◌∷◌, ◌++◌, map, length, take, drop, get_or, Option, Some, Result, Ok, Err, refl, sym, ap, ◌∙◌, subst, arith, inl, inr, append_assoc, append-nil, length-append, true, false}
 use Rattle.std.proofs.lemmas.Bool.{ne_eqb}
 use Rattle.std.proofs.lemmas.List.{map-append}
 use Rattle.std.specs.Io.KnownBytes.{Consumes}
 use Rattle.std.specs.List.{AllByRecursion}
-use Rattle.ctr_port.proofs.Laws.{taken_then}
+use Rattle.ctr_port.proofs.PieceLaws.{taken_then}
 use Rattle.perf_sample.specs.declared.sample.Sample.{Sample}
-use Rattle.perf_sample.specs.declared.words.Word.{Word}
+use Rattle.perf_sample.specs.declared.word.Word.{Word}
 use Rattle.perf_sample.specs.declared.faults.Place.{Place}
 use Rattle.perf_sample.specs.declared.faults.Place.TheVariants as place
 use Rattle.perf_sample.specs.declared.faults.SampleFault.{SampleFault}
 use Rattle.perf_sample.specs.declared.faults.SampleFault.TheVariants as fault
-use Rattle.perf_sample.specs.Words.{word_of, InWidth}
-use Rattle.perf_sample.specs.Layout.{LayoutWords, has, before_nr, all_fields, fields_in, Fits}
-use Rattle.perf_sample.specs.Range.{IsSample}
+use Rattle.perf_sample.specs.Word.{InWidth}
+use Rattle.perf_sample.specs.Fields.{word_of}
+use Rattle.perf_sample.specs.Layout.{LayoutWords, has, fields_in, Fits}
+use Rattle.perf_sample.specs.Fields.{before_nr, all_fields}
+use Rattle.perf_sample.specs.Sample.{IsSample}
 use Rattle.perf_sample.specs.Spelling.{le, place_bytes, fields_bytes}
 use Rattle.perf_sample.specs.Breaks.{number_at, Field, At, first_of}
-use Rattle.perf_sample.specs.Reading.{cut_at, Stopped}
-use Rattle.perf_sample.specs.Rows.{with_word, SetsOnly, SameWord, Holds, PutsIn, TakesRow, TakesHwIndex}
+use Rattle.perf_sample.specs.Reading.{sample_faults, cut_at, Stopped}
+use Rattle.perf_sample.specs.Front.{SetsOnly, SameWord, Holds, PutsIn, TakesRow, TakesHwIndex}
+use Rattle.perf_sample.specs.Fields.{with_word}
 use Rattle.perf_sample.proofs.BreakLaws.{cut_first, stops, early, length_le, number_behind}
-use Rattle.perf_sample.proofs.ReadingLaws.{stopped_after, stopped_as, of_taken}
+use Rattle.perf_sample.proofs.ReadingLaws.{stops_after, stops_as, of_taken}
 use Rattle.perf_sample.proofs.FieldLaws.{SameBut, IsRight, fields_pass, same_bytes, bytes_there, in_there, in_left_out, in_split, left_out_kept, widths_kept}
 
 abbrev none : Place
@@ -37,15 +40,15 @@ record SetKept (n : ℕ) (p : Place) (old new : Sample) : Type 0 where
   branches : new.branches ≡ old.branches
 
 set_kept : (n : ℕ) (w : Word) (s : Sample) → n < 9 → SetKept n (field_at n) s (with_word (field_at n) w s)
-set_kept zero w s within = record { before = tt; others = (inl refl, (inr refl, (inr refl, (inr refl, (inr refl, (inr refl, (inr refl, (inr refl, (inr refl, (inr refl, (inr refl, tt))))))))))); misc = refl; branches = refl }
-set_kept (suc zero) w s within = record { before = (refl, tt); others = (inr refl, (inl refl, (inr refl, (inr refl, (inr refl, (inr refl, (inr refl, (inr refl, (inr refl, (inr refl, (inr refl, tt))))))))))); misc = refl; branches = refl }
-set_kept (suc (suc zero)) w s within = record { before = (refl, (refl, tt)); others = (inr refl, (inr refl, (inl refl, (inr refl, (inr refl, (inr refl, (inr refl, (inr refl, (inr refl, (inr refl, (inr refl, tt))))))))))); misc = refl; branches = refl }
-set_kept (suc (suc (suc zero))) w s within = record { before = (refl, (refl, (refl, tt))); others = (inr refl, (inr refl, (inr refl, (inl refl, (inr refl, (inr refl, (inr refl, (inr refl, (inr refl, (inr refl, (inr refl, tt))))))))))); misc = refl; branches = refl }
-set_kept (suc (suc (suc (suc zero)))) w s within = record { before = (refl, (refl, (refl, (refl, tt)))); others = (inr refl, (inr refl, (inr refl, (inr refl, (inl refl, (inr refl, (inr refl, (inr refl, (inr refl, (inr refl, (inr refl, tt))))))))))); misc = refl; branches = refl }
-set_kept (suc (suc (suc (suc (suc zero))))) w s within = record { before = (refl, (refl, (refl, (refl, (refl, tt))))); others = (inr refl, (inr refl, (inr refl, (inr refl, (inr refl, (inl refl, (inr refl, (inr refl, (inr refl, (inr refl, (inr refl, tt))))))))))); misc = refl; branches = refl }
-set_kept (suc (suc (suc (suc (suc (suc zero)))))) w s within = record { before = (refl, (refl, (refl, (refl, (refl, (refl, tt)))))); others = (inr refl, (inr refl, (inr refl, (inr refl, (inr refl, (inr refl, (inl refl, (inr refl, (inr refl, (inr refl, (inr refl, tt))))))))))); misc = refl; branches = refl }
-set_kept (suc (suc (suc (suc (suc (suc (suc zero))))))) w s within = record { before = (refl, (refl, (refl, (refl, (refl, (refl, (refl, tt))))))); others = (inr refl, (inr refl, (inr refl, (inr refl, (inr refl, (inr refl, (inr refl, (inl refl, (inr refl, (inr refl, (inr refl, tt))))))))))); misc = refl; branches = refl }
-set_kept (suc (suc (suc (suc (suc (suc (suc (suc zero)))))))) w s within = record { before = (refl, (refl, (refl, (refl, (refl, (refl, (refl, (refl, tt)))))))); others = (inr refl, (inr refl, (inr refl, (inr refl, (inr refl, (inr refl, (inr refl, (inr refl, (inl refl, (inr refl, (inr refl, tt))))))))))); misc = refl; branches = refl }
+set_kept zero w s within = record { before = tt; others = search rules; misc = refl; branches = refl }
+set_kept (suc zero) w s within = record { before = search rules; others = search rules; misc = refl; branches = refl }
+set_kept (suc (suc zero)) w s within = record { before = search rules; others = search rules; misc = refl; branches = refl }
+set_kept (suc (suc (suc zero))) w s within = record { before = search rules; others = search rules; misc = refl; branches = refl }
+set_kept (suc (suc (suc (suc zero)))) w s within = record { before = search rules; others = search rules; misc = refl; branches = refl }
+set_kept (suc (suc (suc (suc (suc zero))))) w s within = record { before = search rules; others = search rules; misc = refl; branches = refl }
+set_kept (suc (suc (suc (suc (suc (suc zero)))))) w s within = record { before = search rules; others = search rules; misc = refl; branches = refl }
+set_kept (suc (suc (suc (suc (suc (suc (suc zero))))))) w s within = record { before = search rules; others = search rules; misc = refl; branches = refl }
+set_kept (suc (suc (suc (suc (suc (suc (suc (suc zero)))))))) w s within = record { before = search rules; others = search rules; misc = refl; branches = refl }
 set_kept (suc (suc (suc (suc (suc (suc (suc (suc (suc n))))))))) w s within = absurd (omega (arith, within))
 
 -- what stays where a field is read into a sample
@@ -102,7 +105,7 @@ rows_stop a b c layout n s f within on took h size =
     let front = fields_in layout (take n before_nr) in
     let behind = map At (fields_in layout (drop (n + 1) before_nr)) in
     let here = At (field_at n) ∷ [] in
-    stopped_after a b c (fields_bytes s front) (first_of layout size here) (first_of layout size (map At (fields_in layout before_nr))) f took
+    stops_after sample_faults a b c (fields_bytes s front) (first_of layout size here) (first_of layout size (map At (fields_in layout before_nr))) f took
     (λ z r e.
     ap (λ (l : List Place). first_of layout size (map At l) (fields_bytes s front ++ z)) (in_split layout before_nr n none within on)
     ∙ ap (λ (l : List Field). first_of layout size l (fields_bytes s front ++ z)) (map-append At front (field_at n ∷ fields_in layout (drop (n + 1) before_nr)))
@@ -114,7 +117,7 @@ rows_stop a b c layout n s f within on took h size =
 pub row_cut : (a b : Option (List ℕ)) (p : Place) (f : SampleFault) → Stopped (cut_at (At p)) a b f
     → (layout : LayoutWords) (size : ℕ) → Stopped (first_of layout size (At p ∷ [])) a b f
 row_cut a b p f h layout size =
-    stopped_as a b (cut_at (At p)) (first_of layout size (At p ∷ [])) f (λ z r e. cut_first layout size (At p) [] z r e) h
+    stops_as sample_faults a b (cut_at (At p)) (first_of layout size (At p ∷ [])) f (λ z r e. cut_first layout size (At p) [] z r e) h
 
 two_halves : (m n : ℕ) → length (le 4 m ++ le 4 n) ≡ 8
 two_halves m n = omega (arith, length-append (le 4 m) (le 4 n), length_le 4 m, length_le 4 n)
@@ -171,7 +174,7 @@ record IndexSet (old new : Sample) : Type 0 where
   branches : new.branches ≡ old.branches
 
 index_set : (w : Word) (s : Sample) → IndexSet s (with_word place.HwIndex w s)
-index_set w s = record { before = (refl, (refl, (refl, (refl, (refl, (refl, (refl, (refl, (refl, tt))))))))); others = (inr refl, (inr refl, (inr refl, (inr refl, (inr refl, (inr refl, (inr refl, (inr refl, (inr refl, (inr refl, (inl refl, tt))))))))))); misc = refl; branches = refl }
+index_set w s = record { before = search rules; others = search rules; misc = refl; branches = refl }
 
 pub index_kept : (layout : LayoutWords) (old new : Sample) → SetsOnly place.HwIndex old new → has layout place.HwIndex ≡ true → Fits layout old → IndexKept layout old new
 index_kept layout old new sets on f =

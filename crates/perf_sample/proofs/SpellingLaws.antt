@@ -7,7 +7,8 @@ use Rattle.byteorder.specs.Endian.{little_number}
 use Rattle.byteorder.specs.Numbers.{little_number-reads_back, little_from-append}
 use Rattle.perf_sample.specs.declared.sample.Branch.{Branch}
 use Rattle.perf_sample.specs.declared.sample.Sample.{Sample}
-use Rattle.perf_sample.specs.Layout.{LayoutWords, all_fields, fields_in, fixed_len}
+use Rattle.perf_sample.specs.Layout.{LayoutWords, fields_in, fixed_len}
+use Rattle.perf_sample.specs.Fields.{all_fields}
 use Rattle.perf_sample.specs.Spelling.{le, fields_bytes, branch_bytes, size_of, spelling, Spells}
 use Rattle.perf_sample.proofs.BreakLaws.{length_le}
 use Rattle.perf_sample.proofs.FieldLaws.{length_fields, in_most}

@@ -12,49 +12,56 @@ use Rattle.perf_sample.specs.declared.faults.Place.{Place}
 use Rattle.perf_sample.specs.declared.faults.Place.TheVariants as place
 use Rattle.perf_sample.specs.declared.faults.SampleFault.{SampleFault}
 use Rattle.perf_sample.specs.declared.faults.SampleFault.TheVariants as fault
-use Rattle.perf_sample.specs.Layout.{LayoutWords, has, before_nr, all_fields, fields_in, fixed_len, nr_at, FlagsFit, Fits}
-use Rattle.perf_sample.specs.Words.{word_of, InWidth}
-use Rattle.perf_sample.specs.Blank.{blank}
-use Rattle.perf_sample.specs.Rows.{SetsOnly, SameWord}
-use Rattle.perf_sample.specs.Spelling.{le, place_bytes, fields_bytes, header_bytes, branch_bytes, Spells}
+use Rattle.perf_sample.specs.Layout.{LayoutWords, has, fields_in, fixed_len, nr_at, FlagsFit, Fits}
+use Rattle.perf_sample.specs.Fields.{before_nr, all_fields}
+use Rattle.perf_sample.specs.Word.{InWidth}
+use Rattle.perf_sample.specs.Fields.{word_of}
+use Rattle.perf_sample.specs.Sample.{blank}
+use Rattle.perf_sample.specs.Front.{SetsOnly, SameWord}
+use Rattle.perf_sample.specs.Spelling.{le, place_bytes, fields_bytes, header_bytes, branch_bytes, size_of, Spells}
+use Rattle.perf_sample.specs.Back.{back_bytes, back_break}
 use Rattle.perf_sample.specs.Breaks.{number_at, is_size, Field, Header, At, branch_fields, fields_of, cut_in, wrong_in, or_on, unless, first_of, first_break}
 use Rattle.perf_sample.specs.BranchRange.{IsBranch}
-use Rattle.perf_sample.specs.Range.{IsSample}
+use Rattle.perf_sample.specs.Sample.{IsSample}
 use Rattle.perf_sample.proofs.NumberLaws.{AreBytes, number_back, halves_back, header_back, are_behind, are_before}
-use Rattle.perf_sample.proofs.BreakLaws.{length_le, number_read, number_behind}
+use Rattle.perf_sample.proofs.BreakLaws.{behind, length_le, number_read, number_behind}
 use Rattle.perf_sample.proofs.HeaderLaws.{any_header, length_header, kind_read, size_read}
-use Rattle.perf_sample.proofs.SampleLaws.{nr_fields, index_fields, index_bytes, with_nr, fields_split, whole_spells, range_with}
+use Rattle.perf_sample.proofs.PartLaws.{nr_fields, index_fields, index_bytes, fields_split, range_with, with_branches}
+use Rattle.perf_sample.proofs.SampleLaws.{up_to_nr, parts_spell}
+use Rattle.perf_sample.proofs.CaseLaws.{AtFront}
+use Rattle.perf_sample.specs.Front.{front_bytes}
+use Rattle.perf_sample.specs.Reading.{sample_format}
 use Rattle.perf_sample.proofs.RowLaws.{field_at, row_kept, index_kept}
-use Rattle.perf_sample.proofs.FieldLaws.{length_fields, in_there, in_left_out, in_drop_there, in_drop_out, bytes_there, bytes_out}
+use Rattle.perf_sample.proofs.FieldLaws.{length_fields, same_bytes, in_there, in_left_out, in_drop_there, in_drop_out, bytes_there, bytes_out}
 use Rattle.perf_sample.proofs.OneSpelling.{the_branch}
 
 abbrev Found : Type 0
 Found = Option (SampleFault × List ℕ)
 
 -- a field that isn't the first broken one has eight bytes and a right value, and nothing breaks behind it
-passed_by : (b : Bool) (field : Field) (rest : List ℕ) (w : Option SampleFault) (n : Found) → or_on (if b then Some (cut_in field) else w) rest n ≡ None → (b ≡ false) × (w ≡ None) × (n ≡ None)
+pub passed_by : (b : Bool) (field : Field) (rest : List ℕ) (w : Option SampleFault) (n : Found) → or_on (if b then Some (cut_in field) else w) rest n ≡ None → (b ≡ false) × (w ≡ None) × (n ≡ None)
 passed_by true field rest w n e = absurd cc
 passed_by false field rest (Some f) n e = absurd cc
 passed_by false field rest None n e = (refl, refl, e)
 
-record Passed (layout : LayoutWords) (size : ℕ) (field : Field) (fields : List Field) (bytes : List ℕ) : Type 0 where
-  long : 8 ≤ length bytes
-  right : wrong_in layout size field bytes ≡ None
-  none : first_of layout size fields (drop 8 bytes) ≡ None
+pub record Passed (layout : LayoutWords) (size : ℕ) (field : Field) (fields : List Field) (bytes : List ℕ) : Type 0 where
+  pub long : 8 ≤ length bytes
+  pub right : wrong_in layout size field bytes ≡ None
+  pub none : first_of layout size fields (drop 8 bytes) ≡ None
 
-passed : (layout : LayoutWords) (size : ℕ) (field : Field) (fields : List Field) (bytes : List ℕ) → first_of layout size (field ∷ fields) bytes ≡ None → Passed layout size field fields bytes
+pub passed : (layout : LayoutWords) (size : ℕ) (field : Field) (fields : List Field) (bytes : List ℕ) → first_of layout size (field ∷ fields) bytes ≡ None → Passed layout size field fields bytes
 unfolding first_of
 passed layout size field fields bytes e =
     let p = passed_by (nat_lt (length bytes) 8) field (drop 8 bytes) (wrong_in layout size field bytes) (first_of layout size fields (drop 8 bytes)) e in
     record { long = ltb-false (length bytes) 8 p.0; right = p.1; none = p.2 }
 
 -- the numbers at the front of bytes
-record OneNumber (bytes : List ℕ) : Type 0 where
-  n : ℕ
-  small : n < 2 ^ 64
-  is : bytes ≡ le 8 n ++ drop 8 bytes
+pub record OneNumber (bytes : List ℕ) : Type 0 where
+  pub n : ℕ
+  pub small : n < 2 ^ 64
+  pub is : bytes ≡ le 8 n ++ drop 8 bytes
 
-one_read : (bytes : List ℕ) → 8 ≤ length bytes → AreBytes bytes → OneNumber bytes
+pub one_read : (bytes : List ℕ) → 8 ≤ length bytes → AreBytes bytes → OneNumber bytes
 one_read bytes long are =
     let front = take 8 bytes in
     let they = are_before 8 bytes are in
@@ -84,16 +91,16 @@ two_read bytes long are =
           sym (ap (λ (x : List ℕ). x ++ drop 8 bytes) (halves_back front (take 4 front) (drop 4 front) (length-take-le 8 bytes long) they refl refl) ∙ take-append-drop 8 bytes);
     }
 
-record HeaderRead (bytes : List ℕ) : Type 0 where
-  kind : ℕ
-  misc : ℕ
-  size : ℕ
-  small_kind : kind < 2 ^ 32
-  small_misc : misc < 2 ^ 16
-  small_size : size < 2 ^ 16
-  is : bytes ≡ any_header kind misc size ++ drop 8 bytes
+pub record HeaderRead (bytes : List ℕ) : Type 0 where
+  pub kind : ℕ
+  pub misc : ℕ
+  pub size : ℕ
+  pub small_kind : kind < 2 ^ 32
+  pub small_misc : misc < 2 ^ 16
+  pub small_size : size < 2 ^ 16
+  pub is : bytes ≡ any_header kind misc size ++ drop 8 bytes
 
-header_of : (bytes : List ℕ) → 8 ≤ length bytes → AreBytes bytes → HeaderRead bytes
+pub header_of : (bytes : List ℕ) → 8 ≤ length bytes → AreBytes bytes → HeaderRead bytes
 header_of bytes long are =
     let front = take 8 bytes in
     let rest = drop 4 front in
@@ -111,16 +118,16 @@ header_of bytes long are =
           ∙ take-append-drop 8 bytes);
     }
 
-right_alone : (b : Bool) (f : SampleFault) → unless b f None ≡ None → b ≡ true
+pub right_alone : (b : Bool) (f : SampleFault) → unless b f None ≡ None → b ≡ true
 right_alone true f e = refl
 right_alone false f e = absurd cc
 
-right_both : (b c : Bool) (f g : SampleFault) → unless b f (unless c g None) ≡ None → (b ≡ true) × (c ≡ true)
+pub right_both : (b c : Bool) (f g : SampleFault) → unless b f (unless c g None) ≡ None → (b ≡ true) × (c ≡ true)
 right_both true true f g e = (refl, refl)
 right_both true false f g e = absurd cc
 right_both false c f g e = absurd cc
 
-next : (a b r t : List ℕ) → r ≡ t → a ++ (b ++ r) ≡ (a ++ b) ++ t
+pub next : (a b r t : List ℕ) → r ≡ t → a ++ (b ++ r) ≡ (a ++ b) ++ t
 next a b r t e = sym (append_assoc a b r) ∙ ap (λ (x : List ℕ). (a ++ b) ++ x) e
 
 three : (s t u v a b c : List ℕ) → s ≡ a ++ t → t ≡ b ++ u → u ≡ c ++ v → s ≡ (a ++ b) ++ (c ++ v)
@@ -171,15 +178,15 @@ word_read layout size (suc (suc (suc (suc (suc (suc (suc (suc zero)))))))) bytes
 word_read layout size (suc (suc (suc (suc (suc (suc (suc (suc (suc n))))))))) bytes s within are long right = absurd (omega (arith, within))
 
 -- what the first n fields hold, in a sample that has no branches yet
-record RowsRead (layout : LayoutWords) (size misc n : ℕ) (qs : List Field) (bytes : List ℕ) : Type 0 where
-  sample : Sample
-  fits : Fits layout sample
-  range : IsSample sample
-  same : sample.misc ≡ misc
-  rest : List ℕ
-  are : AreBytes rest
-  is : bytes ≡ fields_bytes sample (fields_in layout (take n before_nr)) ++ rest
-  none : first_of layout size (map At (fields_in layout (drop n before_nr)) ++ qs) rest ≡ None
+pub record RowsRead (layout : LayoutWords) (size misc n : ℕ) (qs : List Field) (bytes : List ℕ) : Type 0 where
+  pub sample : Sample
+  pub fits : Fits layout sample
+  pub range : IsSample sample
+  pub same : sample.misc ≡ misc
+  pub rest : List ℕ
+  pub are : AreBytes rest
+  pub is : bytes ≡ fields_bytes sample (fields_in layout (take n before_nr)) ++ rest
+  pub none : first_of layout size (map At (fields_in layout (drop n before_nr)) ++ qs) rest ≡ None
 
 rows_start : (layout : LayoutWords) (size misc : ℕ) (qs : List Field) (bytes : List ℕ) → misc < 2 ^ 16 → AreBytes bytes
     → first_of layout size (map At (fields_in layout before_nr) ++ qs) bytes ≡ None → RowsRead layout size misc 0 qs bytes
@@ -249,22 +256,22 @@ rows_up_to (suc n) layout size misc qs bytes within r =
     (rows_step layout size misc n qs bytes (omega (arith, within)) (rows_up_to n layout size misc qs bytes (omega (arith, within)) r))
 
 -- all fields before the number of branches
-rows_read : (layout : LayoutWords) (size misc : ℕ) (qs : List Field) (bytes : List ℕ) → misc < 2 ^ 16 → AreBytes bytes
+pub rows_read : (layout : LayoutWords) (size misc : ℕ) (qs : List Field) (bytes : List ℕ) → misc < 2 ^ 16 → AreBytes bytes
     → first_of layout size (map At (fields_in layout before_nr) ++ qs) bytes ≡ None → RowsRead layout size misc 9 qs bytes
 rows_read layout size misc qs bytes small are free =
     rows_up_to 9 layout size misc qs bytes (omega arith) (rows_start layout size misc qs bytes small are free)
 
 -- the hardware index, where the layout has it
-record IndexRead (layout : LayoutWords) (size : ℕ) (qs : List Field) (s : Sample) (bytes : List ℕ) : Type 0 where
-  new : Sample
-  fits : Fits layout new
-  range : IsSample new
-  before : AllByRecursion (SameWord s new) before_nr
-  misc : new.misc ≡ s.misc
-  rest : List ℕ
-  are : AreBytes rest
-  is : bytes ≡ index_bytes layout new ++ rest
-  none : first_of layout size qs rest ≡ None
+pub record IndexRead (layout : LayoutWords) (size : ℕ) (qs : List Field) (s : Sample) (bytes : List ℕ) : Type 0 where
+  pub new : Sample
+  pub fits : Fits layout new
+  pub range : IsSample new
+  pub before : AllByRecursion (SameWord s new) before_nr
+  pub misc : new.misc ≡ s.misc
+  pub rest : List ℕ
+  pub are : AreBytes rest
+  pub is : bytes ≡ index_bytes layout new ++ rest
+  pub none : first_of layout size qs rest ≡ None
 
 index_by : (b : Bool) (layout : LayoutWords) (size : ℕ) (qs : List Field) (s : Sample) (bytes : List ℕ) → has layout place.HwIndex ≡ b → Fits layout s → IsSample s → AreBytes bytes
     → first_of layout size (index_fields layout ++ qs) bytes ≡ None → IndexRead layout size qs s bytes
@@ -302,18 +309,18 @@ index_by false layout size qs s bytes off f is are free =
       none = ap (λ (l : List Place). first_of layout size (map At l ++ qs) bytes) (sym out) ∙ free;
     }
 
-index_read : (layout : LayoutWords) (size : ℕ) (qs : List Field) (s : Sample) (bytes : List ℕ) → Fits layout s → IsSample s → AreBytes bytes
+pub index_read : (layout : LayoutWords) (size : ℕ) (qs : List Field) (s : Sample) (bytes : List ℕ) → Fits layout s → IsSample s → AreBytes bytes
     → first_of layout size (index_fields layout ++ qs) bytes ≡ None → IndexRead layout size qs s bytes
 index_read layout size qs s bytes f is are free = index_by (has layout place.HwIndex) layout size qs s bytes refl f is are free
 
 -- so many branches
-record StackRead (n : ℕ) (bytes : List ℕ) : Type 0 where
-  branches : List Branch
-  count : length branches ≡ n
-  fit : FlagsFit branches
-  range : All IsBranch branches
-  rest : List ℕ
-  is : bytes ≡ flat_map branch_bytes branches ++ rest
+pub record StackRead (n : ℕ) (bytes : List ℕ) : Type 0 where
+  pub branches : List Branch
+  pub count : length branches ≡ n
+  pub fit : FlagsFit branches
+  pub range : All IsBranch branches
+  pub rest : List ℕ
+  pub is : bytes ≡ flat_map branch_bytes branches ++ rest
 
 stack_joined : (n : ℕ) (bytes : List ℕ) (from : OneNumber bytes) (to : OneNumber (drop 8 bytes)) (flags : OneNumber (drop 8 (drop 8 bytes))) → flags.n < 2 ^ 33
     → StackRead n (drop 8 (drop 8 (drop 8 bytes))) → StackRead (suc n) bytes
@@ -330,7 +337,7 @@ stack_joined n bytes from to flags right more =
           from.is to.is flags.is more.is;
     }
 
-stack_read : (n : ℕ) (layout : LayoutWords) (size i : ℕ) (bytes : List ℕ) → AreBytes bytes → first_of layout size (branch_fields i n) bytes ≡ None → StackRead n bytes
+pub stack_read : (n : ℕ) (layout : LayoutWords) (size i : ℕ) (bytes : List ℕ) → AreBytes bytes → first_of layout size (branch_fields i n) bytes ≡ None → StackRead n bytes
 unfolding branch_fields
 stack_read zero layout size i bytes are free = record { branches = []; count = refl; fit = All-nil (λ b. b.flags < 2 ^ 33); range = All-nil IsBranch; rest = bytes; is = refl }
 stack_read (suc n) layout size i bytes are free =
@@ -350,81 +357,132 @@ stack_read (suc n) layout size i bytes are free =
     let right : flags.n < 2 ^ 33 = subst (λ (k : ℕ). k < 2 ^ 33) told seen in
     stack_joined n bytes from to flags right (stack_read n layout size (suc i) (drop 8 last) (are_behind 8 last those) c.none)
 
--- a sample at the front of bytes
-pub record FrontRead (layout : LayoutWords) (bytes : List ℕ) : Type 0 where
+-- the number of branches, the hardware index and the branches, at the front of bytes
+pub record BackRead (layout : LayoutWords) (size : ℕ) (s : Sample) (bytes : List ℕ) : Type 0 where
   pub sample : Sample
-  pub spelled : List ℕ
-  pub rest : List ℕ
   pub range : IsSample sample
-  pub spells : Spells layout sample spelled
-  pub is : bytes ≡ spelled ++ rest
+  pub fits : Fits layout sample
+  pub before : AllByRecursion (SameWord s sample) before_nr
+  pub misc : sample.misc ≡ s.misc
+  pub few : length sample.branches ≤ 256
+  pub sized : size ≡ size_of layout sample
+  pub rest : List ℕ
+  pub is : bytes ≡ back_bytes layout sample ++ rest
 
-five : (s t u v w x a b c d e : List ℕ) → s ≡ a ++ t → t ≡ b ++ u → u ≡ c ++ v → v ≡ d ++ w → w ≡ e ++ x → s ≡ (a ++ b ++ c ++ d ++ e) ++ x
-five s t u v w x a b c d e is_s is_t is_u is_v is_w =
-    four s t u v w a b c d is_s is_t is_u is_v ∙ ap (λ (r : List ℕ). (a ++ b ++ c ++ d) ++ r) is_w ∙ sym (append_assoc (a ++ b ++ c ++ d) e x)
-
--- header, fields, number of branches, hardware index and branches are a sample
-front_spelled : (layout : LayoutWords) (bytes : List ℕ) (h : HeaderRead bytes) (size : ℕ) (qs rs : List Field) (r : RowsRead layout size h.misc 9 qs (drop 8 bytes)) (one : OneNumber r.rest)
-    (x : IndexRead layout size rs r.sample (drop 8 r.rest)) (stack : StackRead one.n x.rest) → h.kind ≡ 9 → one.n ≤ 256 → h.size ≡ fixed_len layout + 24 * one.n
-    → FrontRead layout bytes
-front_spelled layout bytes h size qs rs r one x stack kind few sized =
-    let H = header_bytes h.misc h.size in
-    let R = fields_bytes r.sample (fields_in layout before_nr) in
-    let N = le 8 one.n in
-    let X = index_bytes layout x.new in
-    let T = flat_map branch_bytes stack.branches in
+back_joined : (layout : LayoutWords) (size : ℕ) (s : Sample) (bytes : List ℕ) (rs : List Field) (one : OneNumber bytes) (x : IndexRead layout size rs s (drop 8 bytes)) (stack : StackRead one.n x.rest)
+    → one.n ≤ 256 → size ≡ fixed_len layout + 24 * one.n → BackRead layout size s bytes
+unfolding fields_in
+back_joined layout size s bytes rs one x stack few sized =
+    let u : Sample = record x.new { branches = stack.branches } in
+    let indexes : index_bytes layout x.new ≡ index_bytes layout u = same_bytes layout x.new u (place.HwIndex ∷ []) (refl, tt) in
+    let whole : bytes ≡ (le 8 one.n ++ index_bytes layout x.new) ++ (flat_map branch_bytes stack.branches ++ stack.rest) =
+    one.is ∙ ap (λ (b : List ℕ). le 8 one.n ++ b) x.is ∙ next (le 8 one.n) (index_bytes layout x.new) x.rest (flat_map branch_bytes stack.branches ++ stack.rest) stack.is in
     record {
-      sample = record x.new { branches = stack.branches };
-      spelled = (with_nr layout h.misc h.size one.n r.sample ++ X) ++ T;
-      rest = stack.rest;
+      sample = u;
       range = range_with x.new stack.branches x.range stack.range (omega (arith, stack.count, few));
-      spells =
-          subst (λ (m : ℕ). Spells layout (record x.new { branches = stack.branches }) ((with_nr layout m h.size one.n r.sample ++ X) ++ T)) r.same
-          (whole_spells layout h.size one.n r.sample x.new stack.branches x.fits x.before x.misc stack.fit stack.count few sized);
+      fits = with_branches layout x.new stack.branches x.fits stack.fit;
+      before = x.before;
+      misc = x.misc;
+      few = omega (arith, stack.count, few);
+      sized = sized ∙ ap (λ (n : ℕ). fixed_len layout + 24 * n) (sym stack.count);
+      rest = stack.rest;
       is =
-          five bytes (drop 8 bytes) r.rest (drop 8 r.rest) x.rest stack.rest H R N X T (h.is ∙ ap (λ (k : ℕ). any_header k h.misc h.size ++ drop 8 bytes) kind) r.is one.is x.is stack.is;
+          whole
+          ∙ sym (append_assoc (le 8 one.n ++ index_bytes layout x.new) (flat_map branch_bytes stack.branches) stack.rest)
+          ∙ ap (λ (n : ℕ). ((le 8 n ++ index_bytes layout x.new) ++ flat_map branch_bytes stack.branches) ++ stack.rest) (sym stack.count)
+          ∙ ap (λ (b : List ℕ). ((le 8 (length stack.branches) ++ b) ++ flat_map branch_bytes stack.branches) ++ stack.rest) indexes;
     }
 
--- the number of branches stands behind the header and the fields
-nr_told : (layout : LayoutWords) (bytes : List ℕ) (h : HeaderRead bytes) (size : ℕ) (qs : List Field) (r : RowsRead layout size h.misc 9 qs (drop 8 bytes)) (one : OneNumber r.rest)
-    → number_at (nr_at layout) 8 bytes ≡ one.n
-unfolding nr_at
-nr_told layout bytes h size qs r one =
-    let H = any_header h.kind h.misc h.size in
-    let R = fields_bytes r.sample (fields_in layout before_nr) in
-    let at : length (H ++ R) ≡ nr_at layout = omega (arith, length-append H R, length_header h.kind h.misc h.size, length_fields r.sample (fields_in layout before_nr)) in
-    ap (number_at (nr_at layout) 8) (three bytes (drop 8 bytes) r.rest (drop 8 r.rest) H R (le 8 one.n) h.is r.is one.is)
-    ∙ number_behind (nr_at layout) 8 one.n (H ++ R) (drop 8 r.rest) at one.small
-
-front_joined : (layout : LayoutWords) (told : ℕ) (bytes : List ℕ) (h : HeaderRead bytes) (r : RowsRead layout (number_at 6 2 bytes) h.misc 9 (nr_fields layout told) (drop 8 bytes)) → h.kind ≡ 9
-    → told ≡ number_at (nr_at layout) 8 bytes → FrontRead layout bytes
+pub back_read : (layout : LayoutWords) (size : ℕ) (s : Sample) (bytes : List ℕ) → Fits layout s → IsSample s → AreBytes bytes → back_break layout size bytes ≡ None → BackRead layout size s bytes
 unfolding fields_in
-front_joined layout told bytes h r kind tells =
-    let size = number_at 6 2 bytes in
-    let found = number_at 0 8 r.rest in
-    let behind = drop 8 r.rest in
-    let at = passed layout size (At place.Nr) (index_fields layout ++ branch_fields 0 told) r.rest r.none in
-    let one = one_read r.rest at.long r.are in
+back_read layout size s bytes f is are free =
+    let found = number_at 0 8 bytes in
+    let behind = drop 8 bytes in
+    let at = passed layout size (At place.Nr) (index_fields layout ++ branch_fields 0 found) bytes free in
+    let one = one_read bytes at.long are in
     let counted : found ≡ one.n = ap (number_at 0 8) one.is ∙ number_read 8 one.n behind one.small in
     let agrees = right_both (nat_le found 256) (nat_eq size (fixed_len layout + 24 * found)) fault.Count fault.Size at.right in
     let few : one.n ≤ 256 = subst (λ (k : ℕ). k ≤ 256) counted (leb-true found 256 agrees.0) in
-    let own : size ≡ h.size = ap (number_at 6 2) h.is ∙ size_read h.kind h.misc h.size (drop 8 bytes) h.small_size in
-    let sized : h.size ≡ fixed_len layout + 24 * one.n = sym own ∙ eqb-true size (fixed_len layout + 24 * found) agrees.1 ∙ ap (λ (k : ℕ). fixed_len layout + 24 * k) counted in
-    let same : told ≡ one.n = tells ∙ nr_told layout bytes h size (nr_fields layout told) r one in
-    let free = ap (λ (k : ℕ). first_of layout size (index_fields layout ++ branch_fields 0 k) behind) (sym same) ∙ at.none in
-    let x = index_read layout size (branch_fields 0 one.n) r.sample behind r.fits r.range (are_behind 8 r.rest r.are) free in
+    let sized : size ≡ fixed_len layout + 24 * one.n = eqb-true size (fixed_len layout + 24 * found) agrees.1 ∙ ap (λ (k : ℕ). fixed_len layout + 24 * k) counted in
+    let next_none = ap (λ (k : ℕ). first_of layout size (index_fields layout ++ branch_fields 0 k) behind) (sym counted) ∙ at.none in
+    let x = index_read layout size (branch_fields 0 one.n) s behind f is (are_behind 8 bytes are) next_none in
     let stack = stack_read one.n layout size 0 x.rest x.are x.none in
-    front_spelled layout bytes h size (nr_fields layout told) (branch_fields 0 one.n) r one x stack kind few sized
+    back_joined layout size s bytes (branch_fields 0 one.n) one x stack few sized
 
-pub front_read : (layout : LayoutWords) (bytes : List ℕ) → AreBytes bytes → first_break layout bytes ≡ None → FrontRead layout bytes
-unfolding first_break fields_of
+-- a header and the fields are in front of the rest
+two_parts : (s t u a b : List ℕ) → s ≡ a ++ t → t ≡ b ++ u → s ≡ (a ++ b) ++ u
+two_parts s t u a b is_s is_t =
+    is_s ∙ ap (λ (x : List ℕ). a ++ x) is_t ∙ sym (append_assoc a b u)
+
+nr_told : (layout : LayoutWords) (bytes : List ℕ) (h : HeaderRead bytes) (size : ℕ)
+    (qs : List Field) (r : RowsRead layout size h.misc 9 qs (drop 8 bytes))
+    → number_at (nr_at layout) 8 bytes ≡ number_at 0 8 r.rest
+unfolding nr_at number_at
+nr_told layout bytes h size qs r =
+    let H = any_header h.kind h.misc h.size in
+    let R = front_bytes layout r.sample in
+    let at : length (H ++ R) ≡ nr_at layout =
+    omega (
+      arith,
+      length-append H R,
+      length_header h.kind h.misc h.size,
+      length_fields r.sample (fields_in layout before_nr),
+    ) in
+    ap (λ (b : List ℕ). little_number 8 (drop (nr_at layout) b))
+    (two_parts bytes (drop 8 bytes) r.rest H R h.is r.is)
+    ∙ ap (little_number 8) (behind (H ++ R) r.rest (nr_at layout) at)
+
+front_joined : (layout : LayoutWords) (bytes : List ℕ) (h : HeaderRead bytes) (size : ℕ)
+    (qs : List Field) (r : RowsRead layout size h.misc 9 qs (drop 8 bytes))
+    (b : BackRead layout h.size r.sample r.rest) → h.kind ≡ 9
+    → AtFront (sample_format layout) bytes
+front_joined layout bytes h size qs r b kind =
+    let H = header_bytes h.misc h.size in
+    let up = up_to_nr layout h.misc h.size r.sample in
+    let back = back_bytes layout b.sample in
+    let top : bytes ≡ H ++ drop 8 bytes =
+    h.is ∙ ap (λ (k : ℕ). any_header k h.misc h.size ++ drop 8 bytes) kind in
+    record {
+      item = b.sample;
+      spelled = up ++ back;
+      rest = b.rest;
+      range = b.range;
+      spells =
+          parts_spell layout h.misc h.size r.sample b.sample b.fits b.before
+          (sym r.same ∙ sym b.misc) b.few b.sized;
+      is =
+          two_parts bytes r.rest b.rest up back
+          (two_parts bytes (drop 8 bytes) r.rest H (front_bytes layout r.sample) top r.is) b.is;
+    }
+
+pub front_read : (layout : LayoutWords) (bytes : List ℕ) → AreBytes bytes
+    → first_break layout bytes ≡ None → AtFront (sample_format layout) bytes
+unfolding first_break fields_of fields_in
 front_read layout bytes are free =
     let told = number_at (nr_at layout) 8 bytes in
     let fs = map At (fields_in layout all_fields) ++ branch_fields 0 told in
     let size = number_at 6 2 bytes in
     let top = passed layout size Header fs bytes free in
     let h = header_of bytes top.long are in
-    let right = right_both (nat_eq (number_at 0 4 bytes) 9) (is_size layout size) fault.Kind fault.Size top.right in
-    let kind : h.kind ≡ 9 = sym (ap (number_at 0 4) h.is ∙ kind_read h.kind h.misc h.size (drop 8 bytes) h.small_kind) ∙ eqb-true (number_at 0 4 bytes) 9 right.0 in
-    let none = ap (λ (l : List Field). first_of layout size l (drop 8 bytes)) (sym (fields_split layout told)) ∙ top.none in
-    front_joined layout told bytes h (rows_read layout size h.misc (nr_fields layout told) (drop 8 bytes) h.small_misc (are_behind 8 bytes are) none) kind refl
+    let right =
+    right_both (nat_eq (number_at 0 4 bytes) 9) (is_size layout size) fault.Kind fault.Size
+    top.right in
+    let kind : h.kind ≡ 9 =
+    sym (ap (number_at 0 4) h.is
+    ∙ kind_read h.kind h.misc h.size (drop 8 bytes) h.small_kind)
+    ∙ eqb-true (number_at 0 4 bytes) 9 right.0 in
+    let own : size ≡ h.size =
+    ap (number_at 6 2) h.is ∙ size_read h.kind h.misc h.size (drop 8 bytes) h.small_size in
+    let none =
+    ap (λ (l : List Field). first_of layout size l (drop 8 bytes))
+    (sym (fields_split layout told)) ∙ top.none in
+    let r =
+    rows_read layout size h.misc (nr_fields layout told) (drop 8 bytes) h.small_misc
+    (are_behind 8 bytes are) none in
+    let rest : back_break layout size r.rest ≡ None =
+    ap (λ (n : ℕ). first_of layout size (nr_fields layout n) r.rest)
+    (sym (nr_told layout bytes h size (nr_fields layout told) r)) ∙ r.none in
+    let behind_it : back_break layout h.size r.rest ≡ None =
+    subst (λ (n : ℕ). back_break layout n r.rest ≡ None) own rest in
+    front_joined layout bytes h size (nr_fields layout told) r
+    (back_read layout h.size r.sample r.rest r.fits r.range r.are behind_it) kind

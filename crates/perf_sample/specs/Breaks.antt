@@ -1,12 +1,15 @@
 -- Where bytes break a layout: at the first field from the left that is broken (perf_event.h,
 -- PERF_RECORD_SAMPLE). Each field has eight bytes.
-use Rattle.std.specs.Prelude.{◌≡◌, ◌≢◌, ℕ, zero, suc, ◌+◌, ◌*◌, ◌-◌, ◌%◌, Bool, true, false, ◌&&◌}
+use Rattle.std.specs.Prelude.{ℕ, zero, suc, ◌+◌, ◌*◌, ◌-◌, ◌%◌, Bool, true, false, ◌&&◌}
 use Rattle.std.specs.Prelude.{if◌then◌else◌, nat_eq, nat_le, nat_lt, List, [], ◌∷◌, ◌++◌, map}
 use Rattle.std.specs.Prelude.{length, drop, Option, Some, None}
 use Rattle.byteorder.specs.Endian.{little_number}
-use Rattle.perf_sample.specs.Layout.{LayoutWords, all_fields, fields_in, fixed_len, nr_at}
+use Rattle.perf_sample.specs.Format.{Break, BreaksBy}
+use Rattle.perf_sample.specs.Layout.{LayoutWords, fields_in, fixed_len, nr_at}
+use Rattle.perf_sample.specs.Fields.{all_fields}
 use Rattle.perf_sample.specs.declared.flags.TheConstants.{FIRST_RESERVED, BRANCH_SIZE}
 use Rattle.perf_sample.specs.declared.flags.TheConstants.{PERF_RECORD_SAMPLE}
+use Rattle.perf_sample.specs.declared.limits.TheConstants.{MAX_BRANCHES}
 use Rattle.perf_sample.specs.declared.faults.Place.{Place}
 use Rattle.perf_sample.specs.declared.faults.Place.TheVariants as place
 use Rattle.perf_sample.specs.declared.faults.SampleFault.{SampleFault}
@@ -21,7 +24,7 @@ number_at at k bytes = little_number k (drop at bytes)
 abbrev pub is_size : LayoutWords → ℕ → Bool
 is_size layout size =
     nat_le (fixed_len layout) size
-    && nat_le size (fixed_len layout + BRANCH_SIZE * 256)
+    && nat_le size (fixed_len layout + BRANCH_SIZE * MAX_BRANCHES)
     && nat_eq ((size - fixed_len layout) % BRANCH_SIZE) 0
 
 -- the header, or a field behind it
@@ -48,16 +51,20 @@ abbrev pub unless : Bool → SampleFault → Option SampleFault → Option Sampl
 unless true f next = next
 unless false f next = Some f
 
+-- the fault of a header at the front of the bytes, where its size has to be such
+abbrev pub wrong_header : (ℕ → Bool) → List ℕ → Option SampleFault
+wrong_header is_right bytes =
+    unless (nat_eq (number_at 0 4 bytes) PERF_RECORD_SAMPLE) fault.Kind
+    (unless (is_right (number_at 6 2 bytes)) fault.Size None)
+
 -- the fault of a field's value, which stands at the front of the bytes: a sample of this size in
 -- its header
 abbrev pub wrong_in : LayoutWords → ℕ → Field → List ℕ → Option SampleFault
-wrong_in layout size Header bytes =
-    unless (nat_eq (number_at 0 4 bytes) PERF_RECORD_SAMPLE) fault.Kind
-    (unless (is_size layout (number_at 6 2 bytes)) fault.Size None)
+wrong_in layout size Header bytes = wrong_header (is_size layout) bytes
 wrong_in layout size (At place.Cpu) bytes =
     unless (nat_eq (number_at 4 4 bytes) 0) fault.CpuReserved None
 wrong_in layout size (At place.Nr) bytes =
-    unless (nat_le (number_at 0 8 bytes) 256) fault.Count
+    unless (nat_le (number_at 0 8 bytes) MAX_BRANCHES) fault.Count
     (unless (nat_eq size (fixed_len layout + BRANCH_SIZE * number_at 0 8 bytes)) fault.Size None)
 wrong_in layout size (At (place.Flags i)) bytes =
     unless (nat_lt (number_at 0 8 bytes) FIRST_RESERVED) (fault.FlagReserved i) None
@@ -68,13 +75,19 @@ abbrev pub fault_in : LayoutWords → ℕ → Field → List ℕ → Option Samp
 fault_in layout size field bytes =
     if nat_lt (length bytes) 8 then Some (cut_in field) else wrong_in layout size field bytes
 
-abbrev pub or_on : Option SampleFault → List ℕ → Option (SampleFault × List ℕ)
-    → Option (SampleFault × List ℕ)
+abbrev pub or_on : Option SampleFault → List ℕ → Break SampleFault
+    → Break SampleFault
 or_on (Some f) rest next = Some (f, rest)
 or_on None rest next = next
 
+-- a header that is broken: its fault, and what follows it
+unfoldable pub header_break : (ℕ → Bool) → List ℕ → Break SampleFault
+header_break is_right bytes =
+    or_on (if nat_lt (length bytes) 8 then Some (cut_in Header) else wrong_header is_right bytes)
+    (drop 8 bytes) None
+
 -- the first of these fields that is broken: its fault, and what follows it
-unfoldable pub first_of : LayoutWords → ℕ → List Field → List ℕ → Option (SampleFault × List ℕ)
+unfoldable pub first_of : LayoutWords → ℕ → List Field → List ℕ → Break SampleFault
 first_of layout size [] bytes = None
 first_of layout size (field ∷ fields) bytes =
     or_on (fault_in layout size field bytes) (drop 8 bytes)
@@ -82,13 +95,11 @@ first_of layout size (field ∷ fields) bytes =
 
 -- the same of all fields of a sample. The header tells the size, and a field behind it how many
 -- branches there are
-unfoldable pub first_break : LayoutWords → List ℕ → Option (SampleFault × List ℕ)
+unfoldable pub first_break : LayoutWords → List ℕ → Break SampleFault
 first_break layout bytes =
     first_of layout (number_at 6 2 bytes) (fields_of layout (number_at (nr_at layout) 8 bytes))
     bytes
 
 -- the bytes break the layout with this fault; the rest follows the broken field
-pub record Breaks (layout : LayoutWords) (bytes : List ℕ) (f : SampleFault) (rest : List ℕ)
-    : Type 0 where
-  pub some : bytes ≢ []
-  pub first : first_break layout bytes ≡ Some (f, rest)
+abbrev pub Breaks : LayoutWords → List ℕ → SampleFault → List ℕ → Type 0
+Breaks layout bytes f rest = BreaksBy (first_break layout) bytes f rest

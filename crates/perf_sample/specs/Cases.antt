@@ -1,30 +1,27 @@
--- What bytes are to a layout: empty, the spelling of a sample with whatever follows it, or broken.
+-- What bytes are to a stream of records: empty, the spelling of a record with whatever follows it,
+-- or broken.
 use Rattle.std.specs.Prelude.{◌≡◌, ◌⊎◌, ℕ, List, ◌++◌}
-use Rattle.perf_sample.specs.declared.sample.Sample.{Sample}
-use Rattle.perf_sample.specs.declared.faults.SampleFault.{SampleFault}
-use Rattle.perf_sample.specs.Spelling.{Spells}
-use Rattle.perf_sample.specs.Breaks.{Breaks}
-use Rattle.perf_sample.specs.Range.{IsSample}
-use Rattle.perf_sample.specs.Layout.{LayoutWords}
+use Rattle.perf_sample.specs.Format.{Format, BreaksBy}
 
--- the bytes begin with the spelling of one sample whose numbers lie in the widths of their fields,
+-- the bytes begin with the spelling of one record whose numbers lie in the widths of their fields,
 -- and with no other spelling
-pub record IsSpelled (layout : LayoutWords) (bytes : List ℕ) : Type 0 where
-  pub sample : Sample
+pub record IsSpelled {T F : Type 0} (format : Format T F) (bytes : List ℕ) : Type 0 where
+  pub item : T
   pub spelled : List ℕ
   pub rest : List ℕ
-  pub range : IsSample sample
-  pub spells : Spells layout sample spelled
+  pub range : format.in_range item
+  pub spells : format.spells item spelled
   pub front : bytes ≡ spelled ++ rest
-  pub alone : (s : Sample) (x z : List ℕ) → Spells layout s x → bytes ≡ x ++ z → (x ≡ spelled)
-      × (IsSample s → s ≡ sample)
+  pub alone : (s : T) (x z : List ℕ) → format.spells s x → bytes ≡ x ++ z → (x ≡ spelled)
+      × (format.in_range s → s ≡ item)
 
--- the bytes break the layout with one fault, at one field
-pub record IsBroken (layout : LayoutWords) (bytes : List ℕ) : Type 0 where
-  pub fault : SampleFault
+-- the bytes break with one fault, at one field
+pub record IsBroken {T F : Type 0} (format : Format T F) (bytes : List ℕ) : Type 0 where
+  pub fault : F
   pub rest : List ℕ
-  pub breaks : Breaks layout bytes fault rest
-  pub alone : (f : SampleFault) (u : List ℕ) → Breaks layout bytes f u → (f ≡ fault) × (u ≡ rest)
+  pub breaks : BreaksBy format.first_break bytes fault rest
+  pub alone : (f : F) (u : List ℕ) → BreaksBy format.first_break bytes f u
+      → (f ≡ fault) × (u ≡ rest)
 
 -- exactly one of three holds
 pub record ExactlyOne (A B C : Type 0) : Type 0 where

@@ -1,7 +1,7 @@
 -- A recorded transfer as a branch (`perf_event.h`, struct perf_branch_entry).
 use Rattle.std.specs.Prelude.{ℕ, ◌+◌, ◌*◌, Bool, true, false, if◌then◌else◌, nat_eq, List, [], ◌∷◌}
 use Rattle.std.specs.List.{list_any}
-use Rattle.perf_sample.specs.PerfType.{perf_type_of}
+use Rattle.perf_sample.specs.PerfTypes.{perf_type_of}
 use Rattle.perf_sample.specs.declared.flags.TheConstants.{MISPRED, PREDICTED, TYPE}
 use Rattle.perf_sample.specs.declared.sample.Branch.{Branch}
 

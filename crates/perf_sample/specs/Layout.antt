@@ -4,10 +4,11 @@ use Rattle.std.specs.Prelude.{◌≡◌, ℕ, ◌+◌, ◌*◌, ◌/◌, ◌%◌
 use Rattle.std.specs.Prelude.{◌||◌, if◌then◌else◌, nat_eq, bit_and, List, [], ◌∷◌, ◌++◌, length}
 use Rattle.std.specs.Prelude.{All}
 use Rattle.std.specs.List.{AllByRecursion}
-use Rattle.perf_sample.specs.Words.{word_of, IsZero}
+use Rattle.perf_sample.specs.Word.{IsZero}
+use Rattle.perf_sample.specs.Fields.{before_nr, all_fields, field_bits, row_of, word_of}
 use Rattle.perf_sample.specs.declared.faults.Place.{Place}
 use Rattle.perf_sample.specs.declared.faults.Place.TheVariants as place
-use Rattle.perf_sample.specs.declared.flags.TheConstants.{FIRST_RESERVED, HW_INDEX}
+use Rattle.perf_sample.specs.declared.flags.TheConstants.{BRANCH_STACK, FIRST_RESERVED, HW_INDEX}
 use Rattle.perf_sample.specs.declared.sample.Branch.{Branch}
 use Rattle.perf_sample.specs.declared.sample.Sample.{Sample}
 
@@ -20,9 +21,11 @@ pub record LayoutWords : Type 0 where
 abbrev pub of_sample_type : ℕ → LayoutWords
 of_sample_type bits = record { sample_type = bits; branch = 0 }
 
--- no bit but those of the ten fields that are known here, and the branch stack among them
+-- no bit but those of the fields that are known here and of the branch stack, and that one
 abbrev pub is_layout : ℕ → Bool
-is_layout bits = nat_eq (bit_and bits 0x10BCF) bits && not (nat_eq (bit_and bits 0x800) 0)
+is_layout bits =
+    nat_eq (bit_and bits (field_bits + BRANCH_STACK)) bits
+    && not (nat_eq (bit_and bits BRANCH_STACK) 0)
 
 abbrev pub IsLayout : ℕ → Type 0
 IsLayout bits = is_layout bits ≡ true
@@ -40,27 +43,12 @@ has_bit layout k = nat_eq (layout.sample_type / 2 ^ k % 2) 1
 
 -- whether a layout has a field
 abbrev pub has : LayoutWords → Place → Bool
-has layout place.Identifier = has_bit layout 16
-has layout place.Ip = has_bit layout 0
-has layout place.Tid = has_bit layout 1
-has layout place.Time = has_bit layout 2
-has layout place.Addr = has_bit layout 3
-has layout place.Id = has_bit layout 6
-has layout place.StreamId = has_bit layout 9
-has layout place.Cpu = has_bit layout 7
-has layout place.Period = has_bit layout 8
 has layout place.HwIndex = nat_eq layout.branch HW_INDEX
-has layout _ = true
-
--- the fields before the number of branches, in their order
-abbrev pub before_nr : List Place
-before_nr =
-    place.Identifier ∷ place.Ip ∷ place.Tid ∷ place.Time ∷ place.Addr ∷ place.Id
-    ∷ place.StreamId ∷ place.Cpu ∷ place.Period ∷ []
-
--- the fields between the header and the branches, in their order
-abbrev pub all_fields : List Place
-all_fields = before_nr ++ (place.Nr ∷ place.HwIndex ∷ [])
+has layout place.Nr = true
+has layout (place.From i) = true
+has layout (place.To i) = true
+has layout (place.Flags i) = true
+has layout p = has_bit layout (row_of p).bit
 
 -- those of some fields that a layout has
 unfoldable pub fields_in : LayoutWords → List Place → List Place

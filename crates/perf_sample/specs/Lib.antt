@@ -1,16 +1,19 @@
--- What a reader must believe: Words, Layout, Spelling, Breaks, BranchRange, Range, Blank, Cases,
--- Reader, PerfType and Flags, and the causes of faults in Reading. The rest of Reading and Rows tie
--- private functions to them.
-pub mod Words
+-- What a reader must believe: Word, Fields, Layout, Spelling, Format, Breaks, BranchRange, Sample,
+-- Cases, Reader, PerfTypes and Flags, the causes of faults in Reading, and Header, Front and Back
+-- for the parts of a sample. The rest of Reading and Front ties private functions to them.
+pub mod Word
+pub mod Fields
+pub mod Format
 pub mod Layout
 pub mod Spelling
 pub mod Breaks
 pub mod Reading
-pub mod Rows
+pub mod Header
+pub mod Front
+pub mod Back
 pub mod BranchRange
-pub mod Range
-pub mod Blank
+pub mod Sample
 pub mod Cases
 pub mod Reader
-pub mod PerfType
+pub mod PerfTypes
 pub mod Flags

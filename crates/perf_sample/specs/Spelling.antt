@@ -4,12 +4,14 @@ use Rattle.std.specs.List.{flat_map}
 use Rattle.byteorder.specs.Endian.{little_bytes}
 use Rattle.perf_sample.specs.declared.faults.Place.{Place}
 use Rattle.perf_sample.specs.declared.flags.TheConstants.{BRANCH_SIZE, PERF_RECORD_SAMPLE}
+use Rattle.perf_sample.specs.declared.limits.TheConstants.{MAX_BRANCHES}
 use Rattle.perf_sample.specs.declared.sample.Branch.{Branch}
 use Rattle.perf_sample.specs.declared.sample.Sample.{Sample}
-use Rattle.perf_sample.specs.declared.words.Word.{Word}
-use Rattle.perf_sample.specs.declared.words.Word.TheVariants as word
-use Rattle.perf_sample.specs.Words.{word_of}
-use Rattle.perf_sample.specs.Layout.{LayoutWords, all_fields, fields_in, fixed_len, Fits}
+use Rattle.perf_sample.specs.declared.word.Word.{Word}
+use Rattle.perf_sample.specs.declared.word.Word.TheVariants as word
+use Rattle.perf_sample.specs.Fields.{word_of}
+use Rattle.perf_sample.specs.Layout.{LayoutWords, fields_in, fixed_len, Fits}
+use Rattle.perf_sample.specs.Fields.{all_fields}
 
 -- the k bytes of a number, the lowest first; closed, so that no goal spells them out
 unfoldable pub le : ℕ → ℕ → List ℕ
@@ -49,5 +51,5 @@ spelling layout s =
 -- these bytes are the sample in this layout
 pub record Spells (layout : LayoutWords) (s : Sample) (bytes : List ℕ) : Type 0 where
   pub fits : Fits layout s
-  pub few : length s.branches ≤ 256
+  pub few : length s.branches ≤ MAX_BRANCHES
   pub bytes_are : bytes ≡ spelling layout s

@@ -8,9 +8,10 @@ ghost use Rattle.perf_sample.specs.Reading.{TakesBranches, TakesNr};
 
 use crate::branches::Branches;
 use crate::faults::{Place, SampleFault};
-use crate::fields::{Stop, read_field};
+use crate::field::{Stop, read_field};
 use crate::flags::{BRANCH_SIZE, FIRST_RESERVED};
 use crate::layout::Layout;
+use crate::limits::MAX_BRANCHES;
 use crate::numbers::number;
 use crate::sample::Branch;
 use ctr_port::Source;
@@ -30,7 +31,7 @@ pub(crate) fn read_place<S: Source>(source: &mut S, place: Place) -> Result<[u8;
 }
 
 /// Reads a number in a field of its own.
-pub(crate) fn read_number<S: Source>(source: &mut S, place: Place) -> Result<u64, SampleFault>
+pub(crate) fn read_place_number<S: Source>(source: &mut S, place: Place) -> Result<u64, SampleFault>
     ensures takes { TakesNumber place (S.left source.old) (S.left source.new) result }
     ensures cause { HasCause is_read (S.faults source.old) (S.faults source.new) result }
 {
@@ -45,9 +46,9 @@ pub(crate) fn read_branch<S: Source>(source: &mut S, number: u16) -> Result<Bran
     ensures range { IfOk result IsBranch }
     ensures cause { HasCause is_read (S.faults source.old) (S.faults source.new) result }
 {
-    let from = read_number(source, Place::From(number))?;
-    let to = read_number(source, Place::To(number))?;
-    let flags = read_number(source, Place::Flags(number))?;
+    let from = read_place_number(source, Place::From(number))?;
+    let to = read_place_number(source, Place::To(number))?;
+    let flags = read_place_number(source, Place::Flags(number))?;
     if flags >= FIRST_RESERVED {
         return Err(SampleFault::FlagReserved(number));
     }
@@ -61,7 +62,7 @@ pub(crate) fn read_branches<S: Source>(
     nr: u16,
     branches: &mut Branches,
 ) -> Result<(), SampleFault>
-    requires few { nr ≤ 256 }
+    requires few { nr ≤ MAX_BRANCHES }
     requires none { branches.old ≡ [] }
     ensures takes { TakesBranches nr (S.left source.old) (S.left source.new) branches.new result }
     ensures range { All IsBranch branches.new }
@@ -83,8 +84,8 @@ pub(crate) fn read_nr<S: Source>(
     ensures takes { TakesNr layout size (S.left source.old) (S.left source.new) result }
     ensures cause { HasCause is_read (S.faults source.old) (S.faults source.new) result }
 {
-    let nr = read_number(source, Place::Nr)?;
-    if nr > 256 {
+    let nr = read_place_number(source, Place::Nr)?;
+    if nr > MAX_BRANCHES as u64 {
         return Err(SampleFault::Count);
     }
     let nr = nr as u16;

@@ -3,6 +3,7 @@
 ghost use Rattle.std.specs.Prelude.{◌≡◌, ◌<◌, ◌≤◌, [], ◌∷◌, ◌++◌, length, All};
 ghost use Rattle.perf_sample.specs.BranchRange.{IsBranch};
 
+use crate::limits::MAX_BRANCHES;
 use crate::sample::Branch;
 use std::fmt::{self, Debug};
 use std::marker::Model;
@@ -13,20 +14,21 @@ use std::marker::Model;
 /// cleared by a single store.
 #[derive(Drop)]
 pub struct Branches {
-    room: [Branch; 256],
+    room: [Branch; MAX_BRANCHES],
     len: usize,
 }
 
 impl Model for Branches {
     ghost use Rattle.std.specs.Prelude.{◌≡◌, List, ◌≤◌, length, take, All};
     ghost use Rattle.perf_sample.specs.BranchRange.{IsBranch};
+    ghost use Rattle.perf_sample.specs.declared.limits.TheConstants.{MAX_BRANCHES};
     ghost use Rattle.perf_sample.specs.declared.sample.Branch.{Branch};
 
     ghost Value = { List Branch };
 
     ghost view = { λ b. take b.len b.room };
 
-    ghost invariant = { λ b. (b.len ≤ 256) × (length b.room ≡ 256)
+    ghost invariant = { λ b. (b.len ≤ MAX_BRANCHES) × (length b.room ≡ MAX_BRANCHES)
         × All IsBranch (take b.len b.room) };
 }
 
@@ -49,7 +51,7 @@ impl Branches {
                 from: 0,
                 to: 0,
                 flags: 0,
-            }; 256],
+            }; MAX_BRANCHES],
             len: 0,
         }
     }
@@ -57,7 +59,7 @@ impl Branches {
     /// The branches, youngest first.
     pub fn items(&self) -> &[Branch]
         ensures items { result.now ≡ self.now }
-        ensures fits { length self.now ≤ 256 }
+        ensures fits { length self.now ≤ MAX_BRANCHES }
         ensures range { All IsBranch self.now }
     {
         &self.room[..self.len]
@@ -65,7 +67,7 @@ impl Branches {
 
     /// Adds a branch that is older than those before it. There is room for 256.
     pub fn push(&mut self, item: Branch)
-        requires { length self.old < 256 }
+        requires { length self.old < MAX_BRANCHES }
         ensures { self.new ≡ self.old ++ item ∷ [] }
     {
         self.room[self.len] = item;

@@ -1,33 +1,45 @@
-//! One field of eight bytes, read as far as it goes.
+//! The fields between the header of a sample and its number of branches, one row each.
 
-ghost use Rattle.std.specs.Prelude.{◌≡◌, ◌≤◌};
-ghost use Rattle.ctr_port.specs.Counts.{HasCause};
-ghost use Rattle.perf_sample.specs.Reading.{is_failed, TakesField};
+use crate::faults::Place;
 
-use ctr_port::{Got, Source};
-
-/// Why there is no whole field.
-#[derive(Clone, Copy)]
-pub(crate) enum Stop {
-    /// The input ended after so many bytes of it.
-    Ended(usize),
-    /// A read failed.
-    Failed,
-}
-
-/// Reads the eight bytes of a field, and none beyond them.
-pub(crate) fn read_field<S: Source>(source: &mut S) -> Result<[u8; 8], Stop>
-    ensures takes { TakesField (S.left source.old) (S.left source.new) result }
-    ensures cause { HasCause is_failed (S.faults source.old) (S.faults source.new) result }
-{
-    let mut bytes = [0u8; 8];
-    let mut at = 0;
-    while at < 8 {
-        match source.read(&mut bytes[at..]) {
-            Got::Bytes(count) => at += count,
-            Got::End => return Err(Stop::Ended(at)),
-            Got::Failed => return Err(Stop::Failed),
+// A row: the field, its bit in sample_type (enum perf_event_sample_format), and what of a sample
+// its eight bytes hold: one number (`whole`), two of half the width (`halves`), or one of half the
+// width with a reserved half behind it (`lower`). The rows stand in the order of the fields.
+//
+// The verb says what is made of the rows.
+macro_rules! fields {
+    ($verb:ident, $($more:ident)*) => {
+        $verb! {
+            ($($more)*)
+            Identifier 16 whole identifier;
+            Ip 0 whole ip;
+            Tid 1 halves pid tid;
+            Time 2 whole time;
+            Addr 3 whole addr;
+            Id 6 whole id;
+            StreamId 9 whole stream_id;
+            Cpu 7 lower cpu;
+            Period 8 whole period;
         }
-    }
-    Ok(bytes)
+    };
 }
+
+pub(crate) use fields;
+
+macro_rules! places {
+    (() $($field:ident $bit:literal $form:ident $($name:ident)+;)*) => {
+        [$(Place::$field),*]
+    };
+}
+
+macro_rules! bits {
+    (() $($field:ident $bit:literal $form:ident $($name:ident)+;)*) => {
+        0 $(| 1 << $bit)*
+    };
+}
+
+/// The fields before the number of branches, in their order.
+pub(crate) const BEFORE_NR: [Place; 9] = fields!(places,);
+
+/// Their bits in sample_type.
+pub(crate) const FIELD_BITS: u64 = fields!(bits,);

@@ -25,6 +25,10 @@ pub const TYPE: u64 = 1 << 20;
 /// The first reserved bit of the flags of a branch. The bits from it up to 63 are reserved.
 pub const FIRST_RESERVED: u64 = 1 << 33;
 
+/// The bit PERF_SAMPLE_BRANCH_STACK of sample_type, which every layout has (enum
+/// perf_event_sample_format).
+pub const BRANCH_STACK: u64 = 0x800;
+
 /// The bit PERF_SAMPLE_BRANCH_HW_INDEX of the branch word (enum perf_branch_sample_type).
 pub const HW_INDEX: u64 = 0x20000;
 

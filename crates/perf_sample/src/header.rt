@@ -2,28 +2,27 @@
 
 ghost use Rattle.std.specs.Prelude.{◌≡◌, ◌≤◌};
 ghost use Rattle.ctr_port.specs.Counts.{HasCause};
-ghost use Rattle.perf_sample.specs.Reading.{is_read, TakesHeader};
+ghost use Rattle.perf_sample.specs.Header.{TakesHeader};
+ghost use Rattle.perf_sample.specs.Reading.{is_read};
 
 use crate::faults::SampleFault;
-use crate::fields::{Stop, read_field};
+use crate::field::{Stop, read_field};
 use crate::flags::PERF_RECORD_SAMPLE;
-use crate::layout::Layout;
 use crate::numbers::header;
 use ctr_port::Source;
 
 /// What the header of a sample says beside its type.
-#[derive(Clone, Copy)]
-pub(crate) struct Header {
-    pub(crate) misc: u16,
-    pub(crate) size: u16,
+#[derive(Clone, Copy, Debug, PartialEq, Eq)]
+pub struct Header {
+    /// The field misc, whose low three bits tell the mode of the processor.
+    pub misc: u16,
+    /// The length of the sample in bytes, with its header.
+    pub size: u16,
 }
 
-/// Reads a header; none where the input ends in place of it.
-pub(crate) fn read_header<S: Source>(
-    source: &mut S,
-    layout: Layout,
-) -> Result<Option<Header>, SampleFault>
-    ensures takes { TakesHeader layout (S.left source.old) (S.left source.new) result }
+/// Reads the header of a sample, of any size; none where the input ends in place of it.
+pub fn read_header<S: Source>(source: &mut S) -> Result<Option<Header>, SampleFault>
+    ensures takes { TakesHeader (S.left source.old) (S.left source.new) result }
     ensures cause { HasCause is_read (S.faults source.old) (S.faults source.new) result }
 {
     let bytes = match read_field(source) {
@@ -41,9 +40,6 @@ pub(crate) fn read_header<S: Source>(
     let (kind, misc, size) = header(&bytes);
     if kind != PERF_RECORD_SAMPLE {
         return Err(SampleFault::Kind);
-    }
-    if !layout.is_size(size) {
-        return Err(SampleFault::Size);
     }
     Ok(Some(Header { misc, size }))
 }

@@ -4,6 +4,7 @@
 ghost use Rattle.std.specs.Prelude.{◌≡◌, ℕ, ◌<◌, List, [], ◌++◌, All};
 ghost use Rattle.perf_sample.specs.Layout.{LayoutWords};
 ghost use Rattle.perf_sample.specs.Spelling.{Spells};
+ghost use Rattle.perf_sample.specs.Reading.{sample_format};
 ghost use Rattle.perf_sample.specs.Cases.{IsSpelled, IsBroken, ExactlyOne};
 ghost use Rattle.perf_sample.specs.declared.sample.Sample.{Sample};
 
@@ -15,5 +16,6 @@ pub fn sample_laws()
     ensures no_proper_prefix { (layout : LayoutWords) (first second : Sample) (bytes more : List ℕ)
         → Spells layout first bytes → Spells layout second (bytes ++ more) → more ≡ [] }
     ensures one_of_three { (layout : LayoutWords) (bytes : List ℕ) → All (λ b. b < 256) bytes
-        → ExactlyOne (bytes ≡ []) (IsSpelled layout bytes) (IsBroken layout bytes) }
+        → ExactlyOne (bytes ≡ []) (IsSpelled (sample_format layout) bytes)
+        (IsBroken (sample_format layout) bytes) }
 {}

@@ -2,48 +2,41 @@
 
 ghost use Rattle.std.specs.Prelude.{◌≡◌, ◌≤◌, ◌<◌, IsTrue, IsNone, IfSome, All, ◌↔◌};
 ghost use Rattle.perf_sample.specs.Layout.{IsLayout, IsBranchWord, of_sample_type, has_bit, has};
-ghost use Rattle.perf_sample.specs.Layout.{all_fields, fixed_len, LeftOut, FlagsFit, Fits};
+ghost use Rattle.perf_sample.specs.Layout.{fixed_len, LeftOut, FlagsFit, Fits};
+ghost use Rattle.perf_sample.specs.Fields.{all_fields};
 ghost use Rattle.perf_sample.specs.Breaks.{is_size};
 
 use crate::faults::Place;
-use crate::flags::{BRANCH_SIZE, FIRST_RESERVED, HW_INDEX};
+use crate::fields::{FIELD_BITS, fields};
+use crate::flags::{BRANCH_SIZE, BRANCH_STACK, FIRST_RESERVED, HW_INDEX};
+use crate::limits::{FIELD_SIZE, MAX_FIXED_LEN, MAX_STACK_SIZE};
 use crate::sample::{Branch, Sample};
-use crate::words::word_of;
+use crate::word::word_of;
 use std::marker::Model;
 
-/// The fields before the number of branches, in their order.
-pub(crate) const BEFORE_NR: [Place; 9] = [
-    Place::Identifier,
-    Place::Ip,
-    Place::Tid,
-    Place::Time,
-    Place::Addr,
-    Place::Id,
-    Place::StreamId,
-    Place::Cpu,
-    Place::Period,
-];
+// The fields before the number of branches, that number, and the hardware index.
+macro_rules! all_places {
+    (() $($field:ident $bit:literal $form:ident $($name:ident)+;)*) => {
+        [$(Place::$field,)* Place::Nr, Place::HwIndex]
+    };
+}
+
+// Whether a layout has a field, by its bit.
+macro_rules! has_field {
+    (($layout:ident $place:ident) $($field:ident $bit:literal $form:ident $($name:ident)+;)*) => {
+        match $place {
+            $(Place::$field => $layout.has_bit($bit),)*
+            Place::HwIndex => $layout.branch == HW_INDEX,
+            Place::Nr | Place::From(_) | Place::To(_) | Place::Flags(_) => true,
+        }
+    };
+}
 
 /// The fields between the header and the branches, in their order.
-pub(crate) const ALL_FIELDS: [Place; 11] = [
-    Place::Identifier,
-    Place::Ip,
-    Place::Tid,
-    Place::Time,
-    Place::Addr,
-    Place::Id,
-    Place::StreamId,
-    Place::Cpu,
-    Place::Period,
-    Place::Nr,
-    Place::HwIndex,
-];
+const ALL_FIELDS: [Place; 11] = fields!(all_places,);
 
 /// Every bit that a layout may have.
-const KNOWN: u64 = 0x10BCF;
-
-/// PERF_SAMPLE_BRANCH_STACK, which every layout has.
-const BRANCH_STACK: u64 = 0x800;
+const KNOWN: u64 = FIELD_BITS | BRANCH_STACK;
 
 /// Which fields a sample has, as the words of `perf_event.h`, struct perf_event_attr. Contracts see
 /// these words.
@@ -123,42 +116,30 @@ impl Layout {
     pub fn has(self, place: Place) -> bool
         ensures { result ≡ has self place }
     {
-        match place {
-            Place::Identifier => self.has_bit(16),
-            Place::Ip => self.has_bit(0),
-            Place::Tid => self.has_bit(1),
-            Place::Time => self.has_bit(2),
-            Place::Addr => self.has_bit(3),
-            Place::Id => self.has_bit(6),
-            Place::StreamId => self.has_bit(9),
-            Place::Cpu => self.has_bit(7),
-            Place::Period => self.has_bit(8),
-            Place::HwIndex => self.branch == HW_INDEX,
-            Place::Nr | Place::From(_) | Place::To(_) | Place::Flags(_) => true,
-        }
+        fields!(has_field, self place)
     }
 
     /// The length of a sample without branches, in bytes: 8 for the header, and 8 for each field
     /// between it and the branches.
     pub fn fixed_len(self) -> u16
         ensures len { result ≡ fixed_len self }
-        ensures most { result ≤ 96 }
+        ensures most { result ≤ MAX_FIXED_LEN }
     {
-        let mut len = 8;
+        let mut len = FIELD_SIZE;
         for place in ALL_FIELDS {
             if self.has(place) {
-                len += 8;
+                len += FIELD_SIZE;
             }
         }
         len
     }
 
-    // Whether a sample may have this size, by how many branches it has.
-    pub(crate) fn is_size(self, size: u16) -> bool
+    /// Whether a sample may have this size, by how many branches it has.
+    pub fn is_size(self, size: u16) -> bool
         ensures { result ≡ is_size self size }
     {
         let fixed = self.fixed_len();
-        size >= fixed && size <= fixed + BRANCH_SIZE * 256 && (size - fixed) % BRANCH_SIZE == 0
+        size >= fixed && size <= fixed + MAX_STACK_SIZE && (size - fixed) % BRANCH_SIZE == 0
     }
 
     // Whether a field has a value that the layout lets it have: any where it is there, 0 where it

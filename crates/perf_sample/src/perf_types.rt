@@ -1,7 +1,7 @@
 //! The map from control transfer types to perf branch types, this project's choice.
 
 ghost use Rattle.std.specs.Prelude.{◌≡◌, ◌<◌};
-ghost use Rattle.perf_sample.specs.PerfType.{perf_type_of};
+ghost use Rattle.perf_sample.specs.PerfTypes.{perf_type_of};
 
 // The types of a branch (`perf_event.h`, enum perf_branch_type).
 const UNKNOWN: u64 = 0;

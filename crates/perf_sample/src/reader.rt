@@ -1,30 +1,27 @@
 //! Samples read from their source, call by call.
 
-ghost use Rattle.std.specs.Prelude.{◌≡◌, ℕ, ◌≤◌, ◌<◌, List, [], ◌∷◌, ◌++◌, Some, None, length};
-ghost use Rattle.std.specs.Prelude.{IfOk, IfSome, false};
-ghost use Rattle.perf_sample.specs.Reading.{is_read, answer_of};
+ghost use Rattle.std.specs.Prelude.{◌≡◌, ◌≤◌, Some, None, length, IfOk, IfSome, false};
 ghost use Rattle.ctr_port.specs.Counts.{HasCause};
+ghost use Rattle.perf_sample.specs.Format.{answer_of};
 ghost use Rattle.perf_sample.specs.Layout.{LayoutWords};
-ghost use Rattle.perf_sample.specs.Spelling.{spelling, Spells};
-ghost use Rattle.perf_sample.specs.Breaks.{Breaks};
-ghost use Rattle.perf_sample.specs.declared.sample.Sample.{Sample};
+ghost use Rattle.perf_sample.specs.Sample.{IsSample};
+ghost use Rattle.perf_sample.specs.Reader.{fresh, IsNextAnswer, after, ReadsSample};
+ghost use Rattle.perf_sample.specs.Reading.{is_read, sample_format};
+ghost use Rattle.perf_sample.specs.Spelling.{spelling};
 ghost use Rattle.perf_sample.specs.declared.faults.SampleFault.{SampleFault};
-ghost use Rattle.perf_sample.specs.Range.{IsSample};
-ghost use Rattle.perf_sample.specs.Reader.{fresh, most, IsNextAnswer, after, Answers};
+ghost use Rattle.perf_sample.specs.declared.sample.Sample.{Sample};
 
 use crate::faults::SampleFault;
 use crate::flags::BRANCH_SIZE;
 use crate::layout::Layout;
+use crate::limits::{MAX_SAMPLE_SIZE, MAX_SAMPLES};
 use crate::reading::read_sample;
 use crate::sample::Sample;
 use ctr_port::{Got, Source};
 use std::marker::Model;
 
-/// How many samples a reader gives.
-const MOST: u32 = 1 << 24;
-
-/// A reader of a bare stream of samples of one layout, which gives at most 2^24 of them. After a
-/// fault each call answers it again.
+/// A reader of a bare stream of samples of one layout, which gives at most
+/// [`MAX_SAMPLES`](crate::MAX_SAMPLES) of them. After a fault each call answers it again.
 #[derive(Drop)]
 pub struct SampleReader {
     layout: Layout,
@@ -37,8 +34,10 @@ pub struct SampleReader {
 impl Model for SampleReader {
     ghost use Rattle.std.specs.Prelude.{◌≤◌, ◌*◌};
     ghost use Rattle.perf_sample.specs.Reader.{Reader};
+    ghost use Rattle.perf_sample.specs.declared.faults.SampleFault.{SampleFault};
+    ghost use Rattle.perf_sample.specs.declared.limits.TheConstants.{MAX_SAMPLE_SIZE, MAX_SAMPLES};
 
-    ghost Value = { Reader };
+    ghost Value = { Reader SampleFault };
 
     ghost view = { λ r. record {
       layout = r.layout;
@@ -48,21 +47,21 @@ impl Model for SampleReader {
       offset = r.offset;
     } };
 
-    ghost invariant = { λ r. (r.given ≤ 16777216) × (r.taken ≤ 6240 * r.given) };
+    ghost invariant = { λ r. (r.given ≤ MAX_SAMPLES) × (r.taken ≤ MAX_SAMPLE_SIZE * r.given) };
 }
 
 // How many bytes a sample has in a layout.
 fn length_of(layout: Layout, sample: &Sample) -> u64
     ensures len { result ≡ length (spelling layout sample.now) }
-    ensures most { result ≤ 6240 }
+    ensures most { result ≤ MAX_SAMPLE_SIZE }
 {
     layout.fixed_len() as u64 + BRANCH_SIZE as u64 * sample.branches.items().len() as u64
 }
 
 // Looks for a byte behind the last sample that is given. It never answers true.
-fn look_past<S: Source>(source: &mut S) -> Result<bool, SampleFault>
-    ensures nexted { (layout : LayoutWords) (sample : Sample)
-        → IsNextAnswer layout most (S.left source.old) (S.left source.new)
+fn expect_end<S: Source>(source: &mut S) -> Result<bool, SampleFault>
+    ensures answer { (layout : LayoutWords) (sample : Sample)
+        → IsNextAnswer (sample_format layout) MAX_SAMPLES (S.left source.old) (S.left source.new)
         (answer_of result sample) }
     ensures none { IfOk result (λ next. next ≡ false) }
     ensures cause { HasCause is_read (S.faults source.old) (S.faults source.new) result }
@@ -82,14 +81,14 @@ fn read_next<S: Source>(
     given: u32,
     sample: &mut Sample,
 ) -> Result<bool, SampleFault>
-    requires { given ≤ most }
-    ensures nexted { IsNextAnswer layout given (S.left source.old) (S.left source.new)
-        (answer_of result sample.new) }
+    requires { given ≤ MAX_SAMPLES }
+    ensures answer { IsNextAnswer (sample_format layout) given (S.left source.old)
+        (S.left source.new) (answer_of result sample.new) }
     ensures range { IfOk (answer_of result sample.new) (λ next. IfSome next IsSample) }
     ensures cause { HasCause is_read (S.faults source.old) (S.faults source.new) result }
 {
-    if given == MOST {
-        look_past(source)
+    if given == MAX_SAMPLES {
+        expect_end(source)
     } else {
         read_sample(source, layout, sample)
     }
@@ -123,10 +122,11 @@ impl SampleReader {
         source: &mut S,
         sample: &mut Sample,
     ) -> Result<bool, SampleFault>
-        ensures nexted { IsNextAnswer self.old.layout self.old.given (S.left source.old)
-            (S.left source.new) (answer_of result sample.new) }
+        ensures answer { IsNextAnswer (sample_format self.old.layout) self.old.given
+            (S.left source.old) (S.left source.new) (answer_of result sample.new) }
         ensures range { IfOk (answer_of result sample.new) (λ next. IfSome next IsSample) }
-        ensures after { self.new ≡ after self.old (answer_of result sample.new) }
+        ensures state { self.new
+            ≡ after (spelling self.old.layout) self.old (answer_of result sample.new) }
         ensures cause { HasCause is_read (S.faults source.old) (S.faults source.new) result }
     {
         match read_next(source, self.layout, self.given, sample) {
@@ -149,28 +149,14 @@ impl SampleReader {
     /// and asks the source for no byte beyond the field in hand. After a fault it answers it again,
     /// without a read.
     pub fn next<S: Source>(&mut self, source: &mut S) -> Result<Option<Sample>, SampleFault>
-        ensures nexted { self.old.refused ≡ None
-            → IsNextAnswer self.old.layout self.old.given (S.left source.old)
-            (S.left source.new) result }
-        ensures after { self.old.refused ≡ None → self.new ≡ after self.old result }
+        ensures reads { self.old.refused ≡ None
+            → ReadsSample self.old self.new (S.left source.old) (S.left source.new) result }
         ensures again { (fault : SampleFault) → self.old.refused ≡ Some fault
             → (result ≡ Err fault) × (self.new ≡ self.old) × (source.new ≡ source.old) }
         ensures cause { self.old.refused ≡ None
             → HasCause is_read (S.faults source.old) (S.faults source.new) result }
         // The numbers of a sample lie in the widths of their fields, whatever the source is.
         ensures range { IfOk result (λ next. IfSome next IsSample) }
-        // Of a source that tells its bytes each answer comes wherever its cause is there.
-        ensures none { self.old.refused ≡ None → S.left source.old ≡ Some []
-            → Answers result (Ok None) }
-        ensures sample { (s : Sample) (bytes rest : List ℕ) → self.old.refused ≡ None
-            → self.old.given < most → IsSample s → Spells self.old.layout s bytes
-            → S.left source.old ≡ Some (bytes ++ rest) → Answers result (Ok (Some s)) }
-        ensures broken { (fault : SampleFault) (bytes rest : List ℕ) → self.old.refused ≡ None
-            → self.old.given < most → Breaks self.old.layout bytes fault rest
-            → S.left source.old ≡ Some bytes → Answers result (Err fault) }
-        ensures too_many { (byte : ℕ) (rest : List ℕ) → self.old.refused ≡ None
-            → self.old.given ≡ most → S.left source.old ≡ Some (byte ∷ rest)
-            → Answers result (Err SampleFault.TooMany) }
     {
         let mut sample = Sample::blank();
         match self.read_into(source, &mut sample) {
@@ -189,30 +175,15 @@ impl SampleReader {
         source: &mut S,
         sample: &mut Sample,
     ) -> Result<bool, SampleFault>
-        ensures nexted { self.old.refused ≡ None
-            → IsNextAnswer self.old.layout self.old.given (S.left source.old)
-            (S.left source.new) (answer_of result sample.new) }
-        ensures after { self.old.refused ≡ None
-            → self.new ≡ after self.old (answer_of result sample.new) }
+        ensures reads { self.old.refused ≡ None
+            → ReadsSample self.old self.new (S.left source.old) (S.left source.new)
+            (answer_of result sample.new) }
         ensures again { (fault : SampleFault) → self.old.refused ≡ Some fault
             → (result ≡ Err fault) × (self.new ≡ self.old) × (source.new ≡ source.old)
             × (sample.new ≡ sample.old) }
         ensures cause { self.old.refused ≡ None
             → HasCause is_read (S.faults source.old) (S.faults source.new) result }
         ensures range { IfOk (answer_of result sample.new) (λ next. IfSome next IsSample) }
-        ensures none { self.old.refused ≡ None → S.left source.old ≡ Some []
-            → Answers (answer_of result sample.new) (Ok None) }
-        ensures sample { (s : Sample) (bytes rest : List ℕ) → self.old.refused ≡ None
-            → self.old.given < most → IsSample s → Spells self.old.layout s bytes
-            → S.left source.old ≡ Some (bytes ++ rest)
-            → Answers (answer_of result sample.new) (Ok (Some s)) }
-        ensures broken { (fault : SampleFault) (bytes rest : List ℕ) → self.old.refused ≡ None
-            → self.old.given < most → Breaks self.old.layout bytes fault rest
-            → S.left source.old ≡ Some bytes
-            → Answers (answer_of result sample.new) (Err fault) }
-        ensures too_many { (byte : ℕ) (rest : List ℕ) → self.old.refused ≡ None
-            → self.old.given ≡ most → S.left source.old ≡ Some (byte ∷ rest)
-            → Answers (answer_of result sample.new) (Err SampleFault.TooMany) }
     {
         if let Some(fault) = self.refused {
             return Err(fault);

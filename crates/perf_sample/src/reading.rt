@@ -2,14 +2,15 @@
 
 ghost use Rattle.std.specs.Prelude.{◌≡◌, ◌≤◌, IfOk, IfSome};
 ghost use Rattle.ctr_port.specs.Counts.{HasCause};
-ghost use Rattle.perf_sample.specs.Range.{IsSample};
-ghost use Rattle.perf_sample.specs.Reading.{is_read, answer_of, TakesSample};
+ghost use Rattle.perf_sample.specs.Format.{answer_of, TakesRecord};
+ghost use Rattle.perf_sample.specs.Sample.{IsSample};
+ghost use Rattle.perf_sample.specs.Reading.{is_read, sample_format};
 
-use crate::branch::{read_branches, read_nr};
+use crate::back::read_back;
 use crate::faults::SampleFault;
+use crate::front::read_front;
 use crate::header::read_header;
 use crate::layout::Layout;
-use crate::rows::{read_hw_index, read_rows};
 use crate::sample::Sample;
 use ctr_port::Source;
 
@@ -20,20 +21,21 @@ pub(crate) fn read_sample<S: Source>(
     layout: Layout,
     sample: &mut Sample,
 ) -> Result<bool, SampleFault>
-    ensures takes { TakesSample layout (S.left source.old) (S.left source.new)
+    ensures takes { TakesRecord (sample_format layout) (S.left source.old) (S.left source.new)
         (answer_of result sample.new) }
     ensures range { IfOk (answer_of result sample.new) (λ next. IfSome next IsSample) }
     ensures cause { HasCause is_read (S.faults source.old) (S.faults source.new) result }
 {
-    let header = match read_header(source, layout)? {
+    let header = match read_header(source)? {
         Some(header) => header,
         None => return Ok(false),
     };
+    if !layout.is_size(header.size) {
+        return Err(SampleFault::Size);
+    }
     sample.clear();
     sample.misc = header.misc;
-    read_rows(source, layout, sample)?;
-    let nr = read_nr(source, layout, header.size)?;
-    read_hw_index(source, layout, sample)?;
-    read_branches(source, nr, &mut sample.branches)?;
+    read_front(source, layout, sample)?;
+    read_back(source, layout, header.size, sample)?;
     Ok(true)
 }

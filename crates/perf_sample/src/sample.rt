@@ -1,9 +1,10 @@
 //! What a sample holds.
 
 ghost use Rattle.std.specs.Prelude.{◌≡◌};
-ghost use Rattle.perf_sample.specs.Blank.{blank};
+ghost use Rattle.perf_sample.specs.Sample.{blank};
 
 use crate::branches::Branches;
+use crate::fields::fields;
 
 /// One entry of a branch stack (`perf_event.h`, struct perf_branch_entry).
 #[derive(Clone, Copy, Debug, Default, PartialEq, Eq)]
@@ -49,6 +50,23 @@ pub struct Sample {
     pub branches: Branches,
 }
 
+macro_rules! blank_sample {
+    (() $($field:ident $bit:literal $form:ident $($name:ident)+;)*) => {
+        Sample {
+            misc: 0,
+            $($($name: 0,)+)*
+            hw_index: 0,
+            branches: Branches::new(),
+        }
+    };
+}
+
+macro_rules! clear_fields {
+    (($sample:ident) $($field:ident $bit:literal $form:ident $($name:ident)+;)*) => {{
+        $($($sample.$name = 0;)+)*
+    }};
+}
+
 impl Sample {
     /// The sample whose numbers are 0, without branches. Whoever makes a sample fills in the fields
     /// that it means.
@@ -56,21 +74,7 @@ impl Sample {
     pub fn blank() -> Sample
         ensures { result ≡ blank }
     {
-        Sample {
-            misc: 0,
-            identifier: 0,
-            ip: 0,
-            pid: 0,
-            tid: 0,
-            time: 0,
-            addr: 0,
-            id: 0,
-            stream_id: 0,
-            cpu: 0,
-            period: 0,
-            hw_index: 0,
-            branches: Branches::new(),
-        }
+        fields!(blank_sample,)
     }
 
     /// Makes every number 0 and removes every branch, where the sample lies: nothing of its 6 KB is
@@ -79,16 +83,7 @@ impl Sample {
         ensures { self.new ≡ blank }
     {
         self.misc = 0;
-        self.identifier = 0;
-        self.ip = 0;
-        self.pid = 0;
-        self.tid = 0;
-        self.time = 0;
-        self.addr = 0;
-        self.id = 0;
-        self.stream_id = 0;
-        self.cpu = 0;
-        self.period = 0;
+        fields!(clear_fields, self);
         self.hw_index = 0;
         self.branches.clear();
     }

@@ -1,5 +1,12 @@
 ghost use Rattle.std.specs.Prelude.{◌≡◌, []};
 
+mod broken;
+mod call_by_call;
+mod parts;
+mod samples;
+mod sources;
+mod written_and_read;
+
 use super::*;
 use arrayvec::ArrayVec;
 use std::test::*;

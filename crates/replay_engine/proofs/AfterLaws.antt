@@ -11,7 +11,7 @@ use Rattle.replay_engine.specs.declared.fault.PerformFault.{PerformFault}
 use Rattle.replay_engine.specs.declared.fault.PerformFault.TheVariants.{NoTask, NoHart, NotResident}
 use Rattle.replay_engine.specs.declared.fault.PerformFault.TheVariants.{EmptyHart, Write}
 use Rattle.replay_engine.specs.declared.plan.Orders.{Orders}
-use Rattle.ctr_port.specs.Appended.{GainsPart}
+use Rattle.ctr_port.specs.Sink.{GainsPart}
 use Rattle.rv_hart.specs.Hart.{HartState}
 use Rattle.replay_engine.specs.Tasks.{TaskState, PresentState, AreInverse, PlacesAgree}
 use Rattle.sched_text.specs.Rows.{IsCommand}

@@ -5,7 +5,7 @@ use Rattle.std.specs.Prelude.{OnOk, OnErr, Result, Ok, Err}
 use Rattle.replay_engine.specs.Samples.{sample_of, sample_cost}
 use Rattle.std.proofs.Math.Numerals.{suc-eq-add-one}
 use Rattle.std.proofs.lemmas.Grind.{flat_map-append}
-use Rattle.ctr_port.specs.Appended.{GainsPart}
+use Rattle.ctr_port.specs.Sink.{GainsPart}
 use Rattle.ctr_port.specs.declared.ends.WriteFault.{WriteFault}
 use Rattle.perf_sample.specs.Spelling.{spelling}
 use Rattle.rv_hart.specs.Hart.{HartState}

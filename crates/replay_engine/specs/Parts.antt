@@ -1,7 +1,7 @@
 -- What the parts of a command leave of one task and one hart. These tie private functions together.
 use Rattle.std.specs.Prelude.{◌≡◌, ℕ, suc, ◌+◌, ◌-◌, ◌%◌, ◌^◌, ◌<◌, cond, nat_eq, List, ◌++◌}
 use Rattle.std.specs.Prelude.{slice_get, slice_set, Some}
-use Rattle.ctr_port.specs.Appended.{GainsPart}
+use Rattle.ctr_port.specs.Sink.{GainsPart}
 use Rattle.perf_sample.specs.Spelling.{spelling}
 use Rattle.rv_hart.specs.Hart.{HartState}
 use Rattle.rv_hart.specs.Task.{Irq}

@@ -1,7 +1,7 @@
 -- What a command leaves where engine and harts stand for the commands before it, told from the lone
 -- runs alone.
 use Rattle.std.specs.Prelude.{◌≡◌, ℕ, suc, ◌<◌, List, [], ◌∷◌, ◌++◌, Some, Result, Ok, Err}
-use Rattle.ctr_port.specs.Appended.{GainsPart}
+use Rattle.ctr_port.specs.Sink.{GainsPart}
 use Rattle.perf_sample.specs.declared.sample.Sample.{Sample}
 use Rattle.rv_hart.specs.Hart.{HartState}
 use Rattle.sched_text.specs.declared.schedule.Command.{Command}

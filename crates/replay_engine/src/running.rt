@@ -1,7 +1,7 @@
 //! Steps of a task on a hart.
 
 ghost use Rattle.std.specs.Prelude.{◌≡◌, ◌+◌, ◌-◌, ◌≤◌, ◌^◌, List, OnOk, OnErr};
-ghost use Rattle.ctr_port.specs.Appended.{GainsPart};
+ghost use Rattle.ctr_port.specs.Sink.{GainsPart};
 ghost use Rattle.ctr_port.specs.Counts.{Rose};
 ghost use Rattle.guest_modes.specs.declared.causes.TheConstants.{INTERRUPTS};
 ghost use Rattle.guest_modes.specs.Words.{IsWithin};

@@ -3,9 +3,9 @@
 ghost use Rattle.std.specs.Prelude.{◌≡◌, ◌<◌, ◌≤◌, ◌+◌, ◌-◌, ◌*◌, ◌^◌, map, length, nat_eq};
 ghost use Rattle.std.specs.Prelude.{if◌then◌else◌, OnOk, OnErr, []};
 ghost use Rattle.ctr_csrs.specs.Depths.{entries_of};
-ghost use Rattle.ctr_port.specs.Appended.{GainsPart};
+ghost use Rattle.ctr_port.specs.Sink.{GainsPart};
 ghost use Rattle.ctr_port.specs.Counts.{Rose};
-ghost use Rattle.perf_sample.specs.Blank.{blank};
+ghost use Rattle.perf_sample.specs.Sample.{blank};
 ghost use Rattle.perf_sample.specs.Layout.{Fits, FlagsFit};
 ghost use Rattle.perf_sample.specs.Spelling.{spelling};
 ghost use Rattle.perf_sample.specs.declared.faults.Place.TheVariants as place;

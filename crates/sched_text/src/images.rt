@@ -8,7 +8,7 @@ ghost use Rattle.sched_text.specs.Images.{ImageAnswer};
 
 use crate::faults::{LineFault, Reason, ScheduleFault};
 use crate::limits::WINDOW;
-use crate::lists::Image;
+use crate::schedule::Image;
 use crate::window::Window;
 use ctr_port::{Got, NoMemory, Source};
 use std::alloc::Global;

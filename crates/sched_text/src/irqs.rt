@@ -6,8 +6,7 @@ ghost use Rattle.sched_text.specs.Marks.{mark_of, mark_refusal};
 
 use crate::faults::Reason;
 use crate::limits::{MOST_IRQS, MOST_TASKS};
-use crate::lists::IrqLines;
-use crate::schedule::IrqLine;
+use crate::schedule::{IrqLine, IrqLines};
 use ctr_port::NoMemory;
 use std::alloc::Global;
 use std::marker::Model;

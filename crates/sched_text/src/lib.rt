@@ -9,7 +9,6 @@ mod irqs;
 mod laws;
 mod limits;
 mod lines;
-mod lists;
 mod outcomes;
 mod progress;
 mod reader;
@@ -24,10 +23,9 @@ pub use limits::{
     HEADER_LINES, LAST_IRQ, LINE_LIMIT, MOST_COMMANDS, MOST_IRQS, MOST_MEMORY, MOST_STEPS,
     MOST_TASKS, WINDOW,
 };
-pub use lists::{Image, IrqLines, List, TaskLines};
 pub use outcomes::{check_schedule, image_of, line_of_command};
 pub use reader::ScheduleReader;
-pub use schedule::{Command, Header, IrqLine, TaskLine};
+pub use schedule::{Command, Header, Image, IrqLine, IrqLines, TaskLine, TaskLines};
 
 #[cfg(test)]
 mod tests;

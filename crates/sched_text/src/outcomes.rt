@@ -12,9 +12,8 @@ ghost use Rattle.sched_text.specs.Outcomes.{ImageOutcome};
 
 use crate::commands::is_end;
 use crate::faults::ScheduleFault;
-use crate::lists::Image;
 use crate::reader::{ScheduleReader, widen};
-use crate::schedule::TaskLine;
+use crate::schedule::{Image, TaskLine};
 use ctr_port::Source;
 use std::alloc::Global;
 

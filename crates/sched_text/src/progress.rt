@@ -8,12 +8,11 @@ ghost use Rattle.sched_text.specs.Progress.{lines_of, Sound, start};
 use crate::faults::Reason;
 use crate::irqs::Irqs;
 use crate::limits::MOST_TASKS;
-use crate::lists::TaskLines;
 use crate::rows::{
     IMAGES, IRQ, TASK, Version, branch_row, harts_row, has_form, irq_row, layout_row, task_row,
     version_row,
 };
-use crate::schedule::IrqLine;
+use crate::schedule::{IrqLine, TaskLines};
 use ctr_port::NoMemory;
 use std::alloc::Global;
 

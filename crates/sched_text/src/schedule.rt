@@ -1,6 +1,6 @@
 //! What a schedule says.
 
-use crate::lists::{IrqLines, TaskLines};
+use ctr_port::List;
 
 /// A line `task IMAGE MEM DEPTH MCTRCTL VSCTRCTL PERIOD`.
 #[derive(Clone, Copy, Debug, Default, PartialEq, Eq)]
@@ -33,6 +33,15 @@ pub struct IrqLine {
     /// The number of the interrupt: 1, 2, 3, 5, 6, 7, 9, 10, 11 or 13.
     pub cause: u8,
 }
+
+/// Task lines, in order.
+pub type TaskLines = List<TaskLine>;
+
+/// Irq lines, in order.
+pub type IrqLines = List<IrqLine>;
+
+/// The bytes of an image.
+pub type Image = List<u8>;
 
 /// What the lines up to `images` say.
 #[derive(Debug, Drop)]

@@ -1,5 +1,5 @@
 use Rattle.std.proofs.Common.{arith, take, subst, append-nil}
-use Rattle.ctr_port.proofs.Laws.{gained_more}
+use Rattle.ctr_port.proofs.PieceLaws.{gained_more}
 use Rattle.ctr_port.proofs.sink.write_whole.Goals as goal
 
 pub loop-at-preserved : goal.loop-at-preserved

@@ -1,5 +1,5 @@
 use Rattle.std.proofs.Common.{◌∙◌, subst, List, ℕ}
-use Rattle.ctr_port.specs.Appended.{GainsPart}
+use Rattle.ctr_port.specs.Sink.{GainsPart}
 use Rattle.ctrsim_cli.proofs.SummaryLaws.{summed}
 use Rattle.ctrsim_cli.proofs.demo.demo.Goals as goal
 

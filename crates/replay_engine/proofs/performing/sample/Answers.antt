@@ -1,6 +1,6 @@
 use Rattle.std.proofs.Common.{◌≡◌, refl, ℕ, ◌<◌, List, length, sym, ap, arith, subst}
 use Rattle.std.specs.Prelude.{slice_get, Some}
-use Rattle.ctr_port.specs.Appended.{GainsPart}
+use Rattle.ctr_port.specs.Sink.{GainsPart}
 use Rattle.replay_engine.specs.declared.sampling.Subject.{Subject}
 use Rattle.replay_engine.specs.View.{Plan}
 use Rattle.replay_engine.proofs.Items.{got_item}

@@ -1,6 +1,6 @@
 use Rattle.std.proofs.Common.{◌^◌, ap, arith, subst}
 use Rattle.std.specs.Prelude.{slice_set}
-use Rattle.ctr_port.specs.Appended.{GainsPart}
+use Rattle.ctr_port.specs.Sink.{GainsPart}
 use Rattle.perf_sample.specs.Spelling.{spelling}
 use Rattle.replay_engine.specs.Tasks.{TaskState}
 use Rattle.replay_engine.specs.Samples.{sample_by}

@@ -1,5 +1,5 @@
 use Rattle.std.proofs.Common.{rules}
-use Rattle.ctr_port.proofs.Laws.{given_next}
+use Rattle.ctr_port.proofs.PieceLaws.{given_next}
 use Rattle.ctr_port.proofs.memory_source.MemSource.read_piece.Goals as goal
 
 pub returns-in-Some-clause-gives : goal.returns-in-Some-clause-gives

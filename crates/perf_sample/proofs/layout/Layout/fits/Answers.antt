@@ -1,6 +1,7 @@
 use Rattle.std.proofs.Common.{sym, subst}
 use Rattle.std.proofs.lemmas.List.Elements.{recursion_from_All}
-use Rattle.perf_sample.specs.Layout.{all_fields, LeftOut, FlagsFit}
+use Rattle.perf_sample.specs.Layout.{LeftOut, FlagsFit}
+use Rattle.perf_sample.specs.Fields.{all_fields}
 use Rattle.perf_sample.proofs.layout.Layout.fits.Goals as goal
 
 pub returns-then-takes_all : goal.returns-then-takes_all

@@ -1,7 +1,8 @@
 use Rattle.std.proofs.Common.{◌≡◌, ℕ, ◌+◌, ◌*◌, ◌∙◌, List, length, take, arith, refl, sym, ap, subst}
 use Rattle.perf_sample.specs.declared.faults.Place.{Place}
 use Rattle.perf_sample.specs.declared.faults.Place.TheVariants as place
-use Rattle.perf_sample.specs.Layout.{all_fields, fields_in, fixed_len}
+use Rattle.perf_sample.specs.Layout.{fields_in, fixed_len}
+use Rattle.perf_sample.specs.Fields.{all_fields}
 use Rattle.perf_sample.proofs.FieldLaws.{in_none, length_there, in_more_out}
 use Rattle.perf_sample.proofs.layout.Layout.fixed_len.Goals.{then-has, else-has}
 use Rattle.perf_sample.proofs.layout.Layout.fixed_len.Goals as goal

@@ -1,5 +1,6 @@
 use Rattle.std.proofs.Common.{◌≡◌, ◌≤◌, ◌+◌, ◌*◌, length, take}
-use Rattle.perf_sample.specs.Layout.{all_fields, fields_in}
+use Rattle.perf_sample.specs.Layout.{fields_in}
+use Rattle.perf_sample.specs.Fields.{all_fields}
 use Rattle.perf_sample.proofs.layout.Layout.fixed_len.Given as goal
 
 abbrev pub invariant-loop-place : goal.invariant-loop-place

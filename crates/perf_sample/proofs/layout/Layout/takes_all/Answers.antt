@@ -2,7 +2,8 @@ use Rattle.std.proofs.Common.{◌≡◌, ℕ, ◌∙◌, All, take, arith, refl,
 use Rattle.std.proofs.lemmas.Bool.{true≢false}
 use Rattle.std.proofs.lemmas.List.Elements.{All-more}
 use Rattle.perf_sample.specs.declared.faults.Place.TheVariants as place
-use Rattle.perf_sample.specs.Layout.{all_fields, LeftOut}
+use Rattle.perf_sample.specs.Layout.{LeftOut}
+use Rattle.perf_sample.specs.Fields.{all_fields}
 use Rattle.perf_sample.proofs.layout.Layout.takes_all.Goals as goal
 
 pub returns-then-not-takes : goal.returns-then-not-takes

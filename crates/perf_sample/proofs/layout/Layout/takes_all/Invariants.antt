@@ -1,5 +1,6 @@
 use Rattle.std.proofs.Common.{◌≡◌, All, take}
-use Rattle.perf_sample.specs.Layout.{all_fields, LeftOut}
+use Rattle.perf_sample.specs.Layout.{LeftOut}
+use Rattle.perf_sample.specs.Fields.{all_fields}
 use Rattle.perf_sample.proofs.layout.Layout.takes_all.Given as goal
 
 abbrev pub invariant-loop-place : goal.invariant-loop-place

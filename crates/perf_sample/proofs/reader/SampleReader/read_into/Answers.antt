@@ -1,19 +1,13 @@
-use Rattle.perf_sample.specs.Reading.{answer_of}
-use Rattle.perf_sample.proofs.ExactLaws.{exact_none, exact_sample, exact_break}
+use Rattle.perf_sample.specs.Format.{answer_of}
+use Rattle.perf_sample.specs.Reading.{sample_format}
+use Rattle.perf_sample.specs.Spelling.{spelling}
+use Rattle.perf_sample.proofs.ExactLaws.{reads_next}
+use Rattle.perf_sample.proofs.OneSpelling.{samples_exact}
 use Rattle.perf_sample.proofs.reader.SampleReader.read_into.Goals as goal
 
-pub returns-clause-none : goal.returns-clause-none
-returns-clause-none g c = λ free nothing.
+pub returns-clause-reads : goal.returns-clause-reads
+returns-clause-reads g c = λ free.
     let reader = c.args.self.now in
-    exact_none (answer_of c.answer.result c.answer.new.sample) reader.layout reader.given (g.S.Source.left c.args.source.now) (g.S.Source.left c.answer.new.source) c.answer.ensures.nexted nothing
-
-pub returns-clause-sample : goal.returns-clause-sample
-returns-clause-sample g c = λ s bytes rest free few is spells told.
-    let reader = c.args.self.now in
-    exact_sample (answer_of c.answer.result c.answer.new.sample) reader.layout reader.given (g.S.Source.left c.args.source.now) (g.S.Source.left c.answer.new.source) s bytes rest c.answer.ensures.nexted c.answer.ensures.range few is
-    spells told
-
-pub returns-clause-broken : goal.returns-clause-broken
-returns-clause-broken g c = λ fault bytes rest free few breaks told.
-    let reader = c.args.self.now in
-    exact_break (answer_of c.answer.result c.answer.new.sample) reader.layout reader.given (g.S.Source.left c.args.source.now) (g.S.Source.left c.answer.new.source) bytes rest fault c.answer.ensures.nexted few breaks told
+    let result = answer_of c.answer.result c.answer.new.sample in
+    reads_next (sample_format reader.layout) (samples_exact reader.layout) (spelling reader.layout) reader c.answer.new.self (g.S.Source.left c.args.source.now)
+    (g.S.Source.left c.answer.new.source) result c.answer.ensures.answer c.answer.ensures.state c.answer.ensures.range
