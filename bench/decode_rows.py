@@ -159,10 +159,15 @@ def neighbour(text, word):
     raise ValueError(text)
 
 
-for group, cases in GROUPS.items():
-    print("//", group)
-    lines = [(assembled(text), text, want) for text, want in cases]
-    for word, text, want in lines:
-        print("(0x%08X, %s), // %s" % (word, want, text))
-    for word, text, want in lines:
-        print("0x%08X, // beside %s" % (neighbour(text, word), text))
+def main():
+    for group, cases in GROUPS.items():
+        print("//", group)
+        lines = [(assembled(text), text, want) for text, want in cases]
+        for word, text, want in lines:
+            print("(0x%08X, %s), // %s" % (word, want, text))
+        for word, text, want in lines:
+            print("0x%08X, // beside %s" % (neighbour(text, word), text))
+
+
+if __name__ == "__main__":
+    main()

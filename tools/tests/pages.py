@@ -57,6 +57,23 @@ class Pages(cases.Case):
                     printed += said.decode() + output.decode()
         return printed, told
 
+    def test_links(self):
+        """Every link of every page that isn't to another site leads to a file or a folder."""
+        pages, missing = 0, []
+        for folder, folders, names in os.walk(cases.TOP):
+            folders[:] = [name for name in folders if name not in ("out", ".git", "crates")]
+            for name in names:
+                if name.endswith(".md"):
+                    pages += 1
+                    path = os.path.join(folder, name)
+                    with open(path, encoding="utf-8") as file:
+                        text = re.sub(r"^```.*?^```$", "", file.read(), flags=re.M | re.S)
+                    for target in re.findall(r"\]\(([^)#\s]+)(?:#[^)]*)?\)", text):
+                        if not re.match(r"\w+:", target) and not os.path.exists(os.path.join(folder, target)):
+                            missing.append((os.path.relpath(path, cases.TOP), target))
+        self.assertGreater(pages, 30)
+        self.assertEqual(missing, [])
+
     def test_profiling_a_c_program(self):
         if all(missing("%s " % name) for name in COMPILERS):
             self.skipTest("no compiler for RISC-V")
