@@ -6,6 +6,9 @@ CALLS = {4, 5}
 UNKNOWN = "[unknown]"
 LINKS = {1, 5}
 
+# Where a jump through a register may lead: a tail call through a pointer, or a place within the function by a table.
+ANYWHERE = ""
+
 
 def is_call_stack(sample):
     """Whether all branches of a sample are calls, as they are under return-stack emulation."""
@@ -20,14 +23,16 @@ class Stacks:
         self.functions = elf.Functions(program)
         self.tails = tails(program, self.functions)
         self.reached = {}
+        self.jumped_back = False
 
     def name(self, address):
         found = self.functions.at(address)
         return found[1] if found else UNKNOWN
 
     def frames(self, sample):
-        """The frames of a sample, the outermost first."""
-        found = []
+        """The frames of a sample, the outermost first. Afterwards `jumped_back` tells whether it takes a jump back to a frame
+        further out to explain them, which calls that returned look like where their records stayed."""
+        found, self.jumped_back = [], False
         for branch in reversed(sample.branches):
             self.come(found, branch.source)
             found.append((self.name(branch.target), branch.target))
@@ -40,9 +45,14 @@ class Stacks:
         longjmp does; or an interrupt led to a handler."""
         name = self.name(address)
         names = [frame for frame, _ in found]
-        if name in names and (name == names[-1] or name not in self.led_to(names[-1])):
+        if name in names and (name == names[-1] or not self.may_lead(names[-1], name)):
+            self.jumped_back = self.jumped_back or name != names[-1]
             del found[len(names) - 1 - names[::-1].index(name):]
         found.append((name, address))
+
+    def may_lead(self, name, other):
+        """Whether tail calls may lead from one function to another: as the code says, or through a pointer."""
+        return bool({other, ANYWHERE} & self.led_to(name))
 
     def led_to(self, name):
         """The functions that tail calls lead to from one, by one or more of them."""
@@ -58,7 +68,8 @@ class Stacks:
 
 
 def tails(program, functions):
-    """The functions that each one jumps to without a link, by name."""
+    """The functions that each one jumps to without a link, by name; ANYWHERE where it goes by a register whose value the code
+    before it doesn't tell."""
     found = {}
     for section in program.sections:
         if not section.flags & elf.INSTRUCTIONS or section.kind == elf.NO_BITS:
@@ -68,11 +79,18 @@ def tails(program, functions):
             word, = program.unpacked("<I", section.offset + at)
             address = section.address + at
             target = jump_target(word, address, high)
+            if target is None and is_jump_through_register(word) and functions.at(address):
+                found.setdefault(functions.at(address)[1], set()).add(ANYWHERE)
             high = {word >> 7 & 31: address + signed(word & 0xFFFFF000, 32)} if word & 127 == 0x17 else {}
             here, there = functions.at(address), functions.at(target) if target is not None else None
             if here and there and here != there:
                 found.setdefault(here[1], set()).add(there[1])
     return found
+
+
+def is_jump_through_register(word):
+    """Whether a word is a JALR that neither keeps an address to come back to nor returns to one."""
+    return word & 127 == 0x67 and word >> 7 & 31 not in LINKS and word >> 15 & 31 not in LINKS
 
 
 def jump_target(word, address, high):

@@ -12,8 +12,8 @@ ELF = os.path.join(cases.DATA, "stacks.elf")
 CALL, IND_CALL, COND = 4 << 20, 5 << 20 | 2, 1 << 20 | 2
 
 # The functions of data/stacks.S, by the lengths of those before them; each call by its place.
-MAIN, TAILER, HOT, LEAF, OUTER, INNER, THROWER, HANDLER, EVEN, ODD = (
-    0x80000000 + at for at in (0x08, 0x20, 0x24, 0x34, 0x38, 0x40, 0x48, 0x4C, 0x54, 0x5C))
+MAIN, TAILER, HOT, LEAF, OUTER, INNER, THROWER, HANDLER, EVEN, ODD, CHOOSER = (
+    0x80000000 + at for at in (0x08, 0x20, 0x24, 0x34, 0x38, 0x40, 0x48, 0x4C, 0x54, 0x5C, 0x64))
 START_MAIN = (0x80000000, MAIN, CALL)
 MAIN_TAILER = (MAIN, TAILER, CALL)
 MAIN_OUTER, MAIN_OUTER_AGAIN = (MAIN + 0x0C, OUTER, CALL), (MAIN + 0x10, OUTER, CALL)
@@ -34,9 +34,10 @@ class Fold(cases.Case):
         self.assertEqual(status, 0, said)
         return text, said
 
-    def stack(self, ip, *branches):
+    def stack(self, ip, *branches, notes=0):
         text, said = self.folded(sample(ip, *branches))
-        self.assertEqual(said, "")
+        self.assertEqual(said.count("1 samples want a jump back"), notes)
+        self.assertEqual(said.count("\n"), notes, said)
         self.assertTrue(text.endswith(" 1\n"), text)
         return text[:-3]
 
@@ -57,11 +58,26 @@ class Fold(cases.Case):
         self.assertEqual(self.stack(LEAF, START_MAIN, (MAIN, EVEN, CALL), ODD_EVEN, EVEN_LEAF),
                          "_start;main;even;odd;even;leaf")
 
+    def test_tail_call_through_a_pointer(self):
+        # chooser may lead to any function, also to one that is further out: no jump went back to it.
+        chosen = [START_MAIN, (MAIN, CHOOSER, CALL)]
+        self.assertEqual(self.stack(HOT, *chosen), "_start;main;chooser;hot")
+        self.assertEqual(self.stack(LEAF, *chosen, HOT_LEAF), "_start;main;chooser;hot;leaf")
+        self.assertEqual(self.stack(MAIN + 4, *chosen), "_start;main;chooser;main")
+        self.assertEqual(self.stack(LEAF, *chosen, (MAIN, EVEN, CALL), EVEN_LEAF), "_start;main;chooser;main;even;leaf")
+        self.assertEqual(self.stack(CHOOSER, *chosen), "_start;main;chooser")
+
     def test_jumps_back(self):
-        left = [START_MAIN, MAIN_OUTER, OUTER_INNER, INNER_THROWER]
-        self.assertEqual(self.stack(MAIN + 0x10, *left), "_start;main")
-        self.assertEqual(self.stack(OUTER, *left, MAIN_OUTER_AGAIN), "_start;main;outer")
-        self.assertEqual(self.stack(INNER, *left, MAIN_OUTER_AGAIN, OUTER_INNER), "_start;main;outer;inner")
+        # The return of thrower took its own record away.
+        left = [START_MAIN, MAIN_OUTER, OUTER_INNER]
+        self.assertEqual(self.stack(MAIN + 0x10, *left, notes=1), "_start;main")
+        self.assertEqual(self.stack(OUTER, *left, MAIN_OUTER_AGAIN, notes=1), "_start;main;outer")
+        self.assertEqual(self.stack(INNER, *left, MAIN_OUTER_AGAIN, OUTER_INNER, notes=1), "_start;main;outer;inner")
+
+    def test_calls_that_have_returned(self):
+        # Without return-stack emulation the records of leaf and outer stay: fold tells of it, and takes them for left.
+        self.assertEqual(self.stack(LEAF, START_MAIN, (MAIN, LEAF, CALL), (MAIN, OUTER, CALL), OUTER_INNER, (MAIN, LEAF, CALL),
+                                    notes=1), "_start;main;leaf")
 
     def test_handlers(self):
         self.assertEqual(self.stack(HANDLER, START_MAIN, MAIN_OUTER), "_start;main;outer;handler")
@@ -103,7 +119,7 @@ class Fold(cases.Case):
         plain = [sample(MAIN + 4, START_MAIN), sample(HOT + 4, START_MAIN, (MAIN, HOT, CALL)),
                  sample(THROWER, START_MAIN, MAIN_OUTER, OUTER_INNER, INNER_THROWER),
                  sample(LEAF, START_MAIN, (MAIN, LEAF, CALL))]
-        left = [START_MAIN, MAIN_OUTER, OUTER_INNER, INNER_THROWER]
+        left = [START_MAIN, MAIN_OUTER, OUTER_INNER]
         others = [sample(LEAF, START_MAIN, MAIN_TAILER, HOT_LEAF), sample(HOT, START_MAIN, MAIN_TAILER),
                   sample(INNER, *left, MAIN_OUTER_AGAIN, OUTER_INNER), sample(LEAF, START_MAIN, MAIN_OUTER, HANDLER_LEAF),
                   sample(LEAF, START_MAIN, (MAIN, EVEN, CALL), ODD_EVEN, EVEN_LEAF)]

@@ -1,5 +1,5 @@
-# A program for the tests of tools/record and tools/fold: calls, a tail call, a jump back as longjmp makes it, a handler, and
-# two functions that lead to each other by tail calls. Built by
+# A program for the tests of tools/record and tools/fold: calls, a tail call, a jump back as longjmp makes it, a handler,
+# two functions that lead to each other by tail calls, and one that makes a tail call through a pointer. Built by
 #     riscv64-unknown-elf-gcc -march=rv64im_zicsr -mabi=lp64 -nostdlib -static -Wl,--no-warn-rwx-segments \
 #         -T ../../start/link.ld stacks.S -o stacks.elf
 
@@ -14,7 +14,7 @@ _start:
 
 main:
         jal     tailer
-        la      t3, 2f
+        la      t0, 2f
         jal     outer
 2:
         jal     outer
@@ -41,7 +41,7 @@ inner:
         ret
 
 thrower:
-        jr      t3                      # back to main, as longjmp does
+        jr      t0                      # back to main, by a return as longjmp makes it
 
 handler:
         jal     leaf
@@ -54,3 +54,6 @@ even:
 odd:
         jal     even
         j       even                    # a tail call
+
+chooser:
+        jr      a0                      # a tail call through a pointer
