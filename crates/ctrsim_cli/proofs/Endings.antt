@@ -13,7 +13,7 @@ use Rattle.replay_engine.specs.Breaks.{AreAllowed, HasAllowed, reason_of}
 use Rattle.replay_engine.specs.Refusals.{refusal_after}
 use Rattle.replay_engine.specs.Start.{plan_of}
 use Rattle.replay_engine.specs.declared.fault.PerformFault.{PerformFault}
-use Rattle.sched_text.specs.Commands.{command_row, command_cut, command_at, commands_after, next_command, joined}
+use Rattle.sched_text.specs.Commands.{command_row, command_cut, command_at, commands_after, next_command, with_command}
 use Rattle.sched_text.specs.Header.{Whole, HasHeader, IsCutOff, header_cut, after}
 use Rattle.sched_text.specs.Images.{IsWithin}
 use Rattle.sched_text.specs.Lines.{LineCut, Line, Long, Open, line_at}
@@ -80,7 +80,7 @@ are_images line h images t m b size = record {
 pub reads_more : (line count : ℕ) (cs : List Command) (c : Command) (m k rest : List ℕ) → commands_after count line m ≡ Ok (cs, k) → command_at (line + (count + 1)) count k ≡ Ok (c, rest)
     → commands_after (suc count) line m ≡ Ok (cs ++ c ∷ [], rest)
 unfolding commands_after
-reads_more line count cs c m k rest given next = ap (next_command (line + suc count) count) given ∙ ap (joined cs) (rw (add-one count) at next)
+reads_more line count cs c m k rest given next = ap (next_command (line + suc count) count) given ∙ ap (with_command cs) (rw (add-one count) at next)
 
 abbrev pub has_more : (line count : ℕ) (h : Header) (images : List (List ℕ)) (cs : List Command) (c : Command) (t m k rest : List ℕ) → Begins line h images t m → commands_after count line m ≡ Ok (cs, k)
     → command_at (line + (count + 1)) count k ≡ Ok (c, rest) → AreAllowed (plan_of h) cs → refusal_after (plan_of h) cs c ≡ None → HasAllowed t line (suc count) (cs ++ c ∷ []) rest

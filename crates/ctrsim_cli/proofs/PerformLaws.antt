@@ -19,9 +19,9 @@ use Rattle.replay_engine.specs.Tasks.{TaskState, PresentState}
 use Rattle.replay_engine.specs.View.{Plan, view_of}
 use Rattle.replay_engine.specs.declared.fault.PerformFault.{PerformFault}
 use Rattle.rv_hart.specs.Hart.{HartState}
-use Rattle.sched_text.specs.Commands.{is_end, command_at, commands_after, next_command, joined}
+use Rattle.sched_text.specs.Commands.{is_end, command_at, commands_after, next_command, with_command}
 use Rattle.sched_text.specs.Outcomes.{FirstCommands}
-use Rattle.sched_text.specs.Reader.{counted}
+use Rattle.sched_text.specs.Reader.{count_after}
 use Rattle.sched_text.specs.Text.{has_end}
 use Rattle.sched_text.specs.declared.schedule.Command.{Command}
 use Rattle.sched_text.specs.declared.schedule.Command.TheVariants as command
@@ -47,7 +47,7 @@ pub gives_more : (lines count : ℕ) (cs : List Command) (c : Command) (t t' t''
     → FirstCommands lines (count + 1) (cs ++ c ∷ []) t t''
 unfolding commands_after
 gives_more lines count cs c t t' t'' other given next = (
-  rw (add-one count) (ap (next_command (lines + suc count) count) given.0 ∙ ap (joined cs) (rw (add-one count) at next)),
+  rw (add-one count) (ap (next_command (lines + suc count) count) given.0 ∙ ap (with_command cs) (rw (add-one count) at next)),
   end_more cs c ∙ or_from (has_end cs) (is_end c) given.1 other,
 )
 
@@ -57,7 +57,7 @@ end_is (command.Sample t) e = absurd (cc e)
 end_is (command.Evict h) e = absurd (cc e)
 end_is command.End e = refl
 
-pub counted_one : (n : ℕ) (c : Command) → is_end c ≡ false → counted n (Ok c) ≡ n + 1
+pub counted_one : (n : ℕ) (c : Command) → is_end c ≡ false → count_after n (Ok c) ≡ n + 1
 counted_one n c e = rw e refl
 
 -- one more command that may be performed

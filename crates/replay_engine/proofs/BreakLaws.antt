@@ -13,7 +13,7 @@ use Rattle.sched_text.specs.Header.{HasHeader}
 use Rattle.sched_text.specs.Rows.{command_of}
 use Rattle.sched_text.specs.Commands.{command_at, command_cut, command_row, commands_after, end_at}
 use Rattle.sched_text.specs.Commands.{is_end}
-use Rattle.sched_text.specs.Commands.{joined, next_command}
+use Rattle.sched_text.specs.Commands.{with_command, next_command}
 use Rattle.sched_text.specs.Header.{refuse}
 use Rattle.sched_text.specs.Text.{images_len, has_end, ImagesBreak, CommandsBreak}
 use Rattle.sched_text.specs.Text.{TextBreak}
@@ -48,7 +48,7 @@ not_ok r a e p q = absurd (cc)
 
 -- the commands before the last one
 join_back : (cs : List Command) (q : Result (Command × List ℕ) LineFault)
-    (y : List Command × List ℕ) → joined cs q ≡ Ok y →
+    (y : List Command × List ℕ) → with_command cs q ≡ Ok y →
     (c : Command) × (q ≡ Ok (c, y.1)) × (y.0 ≡ cs ++ c ∷ [])
 join_back cs (Ok z) y e =
     let is : (cs ++ z.0 ∷ [], z.1) ≡ y = cc in (

@@ -2,7 +2,7 @@
 use Rattle.std.specs.Prelude.{◌≡◌, ℕ, ◌<◌, ◌≤◌, Bool, List, length, map, slice_get, Option, Some}
 use Rattle.std.specs.List.{All}
 use Rattle.perf_sample.specs.Layout.{IsLayout, IsBranchWord}
-use Rattle.sched_text.specs.declared.limits.TheConstants.{MOST_STEPS}
+use Rattle.sched_text.specs.declared.limits.TheConstants.{MAX_STEPS}
 use Rattle.task_switch.specs.SaveArea.{IsWhole}
 use Rattle.replay_engine.specs.declared.plan.Orders.{Orders}
 use Rattle.replay_engine.specs.Irqs.{AreIrqs}
@@ -35,7 +35,7 @@ HasWholeArea x = IsWhole x.area
 
 -- a period in its range, and interrupts in their order
 pub record IsOrders (o : Orders) : Type 0 where
-  pub period : o.period ≤ MOST_STEPS
+  pub period : o.period ≤ MAX_STEPS
   pub irqs : AreIrqs o.irqs
 
 -- there are harts and tasks, and a layout of samples; there is a task for each that the schedule

@@ -5,7 +5,7 @@ use Rattle.rv_hart.specs.Task.{Irq, Task, AreInterrupts}
 use Rattle.sched_text.specs.Header.{IsHeader}
 use Rattle.sched_text.specs.Irqs.{lines_of_task}
 use Rattle.sched_text.specs.Rows.{IsCommand}
-use Rattle.sched_text.specs.declared.limits.TheConstants.{MOST_STEPS}
+use Rattle.sched_text.specs.declared.limits.TheConstants.{MAX_STEPS}
 use Rattle.sched_text.specs.declared.schedule.Command.{Command}
 use Rattle.sched_text.specs.declared.schedule.Header.{Header}
 use Rattle.sched_text.specs.declared.schedule.TaskLine.{TaskLine}
@@ -74,7 +74,7 @@ SamplesAreOwn = (a b : Header) (line : TaskLine) (image : List ℕ) (t n g h : �
 abbrev pub CommandsAddLittle : Type 0
 CommandsAddLittle = (plan : Plan) (v : View) (c : Command) (a s n : ℕ) → IsCommand c →
     CountsWithin a s n v →
-    CountsWithin (a + 2 ^ 40) (s + MOST_STEPS) (n + MOST_STEPS) (after_command plan v c)
+    CountsWithin (a + 2 ^ 40) (s + MAX_STEPS) (n + MAX_STEPS) (after_command plan v c)
 
 -- counts within some bounds are within greater ones
 abbrev pub CountsLoosen : Type 0

@@ -7,7 +7,7 @@ ghost use Rattle.rv_hart.specs.Hart.{fresh_harts};
 ghost use Rattle.rv_hart.specs.Task.{Task};
 ghost use Rattle.sched_text.specs.Header.{IsHeader};
 ghost use Rattle.sched_text.specs.Rows.{IsCommand};
-ghost use Rattle.sched_text.specs.declared.limits.TheConstants.{MOST_STEPS};
+ghost use Rattle.sched_text.specs.declared.limits.TheConstants.{MAX_STEPS};
 ghost use Rattle.sched_text.specs.declared.schedule.Command.{Command};
 ghost use Rattle.replay_engine.specs.Counts.{HasRoom, CountsWithin};
 ghost use Rattle.replay_engine.specs.Engine.{IsEngine};
@@ -133,7 +133,7 @@ impl Engine {
         ensures broken { self.new.broken ≡ is_write result }
         ensures counts { (accesses steps own : ℕ) →
             CountsWithin accesses steps own (view_of self.old.tasks harts.old) →
-            CountsWithin (accesses + 2 ^ 40) (steps + MOST_STEPS) (own + MOST_STEPS)
+            CountsWithin (accesses + 2 ^ 40) (steps + MAX_STEPS) (own + MAX_STEPS)
             (view_of self.new.tasks harts.new) }
         ensures cause { HasCause is_write_fault (K.faults sink.old) (K.faults sink.new) result }
 

@@ -3,7 +3,7 @@ ghost use Rattle.std.specs.Prelude.{◌≡◌, ◌≢◌, ◌+◌, ◌≤◌, �
 ghost use Rattle.std.specs.Prelude.{None, Err, length, OnOk, OnErr};
 ghost use Rattle.ctr_port.specs.Counts.{Rose};
 ghost use Rattle.sched_text.specs.Rows.{IsCommand};
-ghost use Rattle.sched_text.specs.declared.limits.TheConstants.{MOST_STEPS};
+ghost use Rattle.sched_text.specs.declared.limits.TheConstants.{MAX_STEPS};
 ghost use Rattle.replay_engine.specs.Counts.{HasRoom};
 ghost use Rattle.replay_engine.specs.Parts.{RunAmong, CutAmong, SampleAmong, SampleCutAmong};
 ghost use Rattle.sched_text.specs.declared.schedule.Command.TheVariants as command;
@@ -31,7 +31,7 @@ fn run_on_hart<K: Sink>(
 ) -> Result<(), WriteFault>
     requires task { subject.now.task < length tasks.old }
     requires hart { subject.now.hart < 16 }
-    requires few { steps ≤ MOST_STEPS }
+    requires few { steps ≤ MAX_STEPS }
     requires room { HasRoom (2 ^ 61 + 3090) (view_of tasks.old harts.old) }
     ensures whole { OnOk result (RunAmong K.gained sink.old sink.new tasks.old tasks.new harts.old
         harts.new subject.now orders.now.irqs steps) }
@@ -92,7 +92,7 @@ fn run<K: Sink>(
     sink: &mut K,
 ) -> Result<(), PerformFault>
     requires ready { IsReady plan.now tasks.old harts.old }
-    requires few { steps ≤ MOST_STEPS }
+    requires few { steps ≤ MAX_STEPS }
     ensures outcome { IsOutcome K.gained sink.old sink.new plan.now tasks.old tasks.new harts.old
         harts.new (command.Run hart task steps) result }
     ensures size { length tasks.new ≡ length tasks.old }

@@ -6,7 +6,7 @@ ghost use Rattle.ctr_port.specs.Counts.{Rose};
 ghost use Rattle.guest_modes.specs.declared.causes.TheConstants.{INTERRUPTS};
 ghost use Rattle.guest_modes.specs.Words.{IsWithin};
 ghost use Rattle.rv_hart.specs.Task.{Irq, causes};
-ghost use Rattle.sched_text.specs.declared.limits.TheConstants.{MOST_STEPS};
+ghost use Rattle.sched_text.specs.declared.limits.TheConstants.{MAX_STEPS};
 ghost use Rattle.replay_engine.specs.Parts.{RunMade, RunCut, next_due};
 ghost use Rattle.replay_engine.specs.Runs.{next_present, due_sample, due_cost, spellings};
 ghost use Rattle.replay_engine.specs.Tasks.{state_on};
@@ -95,7 +95,7 @@ pub(crate) fn run_steps<K: Sink>(
     room: &mut SampleRoom,
     sink: &mut K,
 ) -> Result<(), WriteFault>
-    requires few { steps ≤ MOST_STEPS }
+    requires few { steps ≤ MAX_STEPS }
     requires accesses { hart.old.accesses ≤ 2 ^ 61 + 5000 }
     requires hart_room { hart.old.steps ≤ 2 ^ 61 }
     requires task_room { task.old.steps ≤ 2 ^ 61 }

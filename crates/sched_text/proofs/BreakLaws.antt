@@ -3,7 +3,7 @@ use Rattle.std.proofs.Common.{◌≡◌, ℕ, zero, suc, ◌+◌, ◌<◌, ◌�
 use Rattle.std.proofs.lemmas.Bool.{cases_eq, cases_lt, true≢false}
 use Rattle.sched_text.specs.Lines.{LineCut, Line, Long, Open, line_at}
 use Rattle.sched_text.specs.Header.{HeaderLines, NoLine, Versioned, Counted, LaidOut, Rows, Whole, header_cut, next_line, after, is_whole, HasHeader, HeaderBreak}
-use Rattle.sched_text.specs.Commands.{command_at, commands_after, next_command, joined}
+use Rattle.sched_text.specs.Commands.{command_at, commands_after, next_command, with_command}
 use Rattle.sched_text.specs.Text.{images_len, ImagesBreak, CommandsBreak, TextBreak}
 use Rattle.sched_text.specs.declared.schedule.Header.{Header}
 use Rattle.sched_text.specs.declared.schedule.Command.{Command}
@@ -117,7 +117,7 @@ pub command_refused : (n base : ℕ) (t : List ℕ) (x : List Command × List �
 unfolding commands_after
 command_refused n base t x f e r =
     let there : command_at (base + suc n) n x.1 ≡ Err f = rw (← add-one n) r in
-    ap (next_command (base + suc n) n) e ∙ ap (joined x.0) there
+    ap (next_command (base + suc n) n) e ∙ ap (with_command x.0) there
 
 pub never_so : {A : Type 0} (x : List Command × List ℕ) (f : LineFault) (r : Result (List Command × List ℕ) LineFault) → r ≡ Ok x → r ≡ Err f → A
 never_so x f r e g = absurd (cc)

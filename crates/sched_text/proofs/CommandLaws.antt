@@ -8,7 +8,7 @@ use Rattle.sched_text.specs.Rows.{command_of}
 use Rattle.sched_text.specs.Header.{refuse}
 use Rattle.sched_text.specs.Commands.{is_end, end_at, command_row, command_cut, command_at, ends_hand, cut_needs_read, needs_read}
 use Rattle.sched_text.specs.InHand.{is_open}
-use Rattle.sched_text.specs.Reader.{EndsAt, CommandAnswer, EndAnswer, ended}
+use Rattle.sched_text.specs.Reader.{EndsAt, CommandAnswer, EndAnswer, end_answer}
 use Rattle.sched_text.specs.declared.faults.LineFault.{LineFault}
 use Rattle.sched_text.specs.declared.schedule.Command.{Command}
 use Rattle.sched_text.specs.declared.schedule.Command.TheVariants as command
@@ -96,7 +96,7 @@ open_nothing hand e = rw e refl
 
 -- what comes after the line `end`
 pub end_shows : (r : Result (Unit {0}) CommandFault) (text text' text'' : Option (List ℕ)) (line count : ℕ) (w hand : List ℕ) (c : Command) → Of text text' (Begins w) → command_of w ≡ Ok c
-    → is_end c ≡ true → EndAnswer line text' text'' hand r → CommandAnswer (command_at line count) text text'' hand (ended r)
+    → is_end c ≡ true → EndAnswer line text' text'' hand r → CommandAnswer (command_at line count) text text'' hand (end_answer r)
 end_shows (Ok done) text text' text'' line count w hand c given row end finished =
     of_then text text' text'' (Begins w) (λ t t'. end_at line t ≡ Ok (command.End, t')) (Says line count (λ t'. Ok (command.End, t'))) given finished
     (λ t t' t'' e stops. ends line count t t' w c e row end ∙ stops)

@@ -10,7 +10,7 @@ use Rattle.sched_text.specs.Lines.{LineCut, Line, Long, Open, line_at}
 use Rattle.sched_text.specs.Header.{header_cut, after}
 use Rattle.sched_text.specs.Header.{Whole, HeaderAnswer, HasHeader, HeaderBreak, IsCutOff}
 use Rattle.sched_text.specs.Images.{IsWithin}
-use Rattle.sched_text.specs.Commands.{command_row, command_cut, command_at, commands_after, next_command, joined}
+use Rattle.sched_text.specs.Commands.{command_row, command_cut, command_at, commands_after, next_command, with_command}
 use Rattle.sched_text.specs.Reader.{EndsAt}
 use Rattle.sched_text.specs.Text.{TextBreak, HasCommands, HasImage, IsWhole, has_end}
 use Rattle.sched_text.specs.declared.schedule.Header.{Header}
@@ -20,7 +20,7 @@ use Rattle.sched_text.specs.declared.faults.LineFault.{LineFault}
 use Rattle.sched_text.specs.declared.faults.Reason.TheVariants as reason
 use Rattle.sched_text.specs.declared.faults.ScheduleFault.{ScheduleFault}
 use Rattle.sched_text.specs.declared.faults.ScheduleFault.TheVariants as fault
-use Rattle.sched_text.specs.Outcomes.{IsWholeOrCut, TextOutcome, total, IsBehind, IsShort, ImagesAnswer, FirstCommands, HasFirstCommands, BehindCommands, CommandsAnswer, SomeCommandsAnswer, HasReadCommands, IsWholeWithin, LineOutcome, IsImage, TaskImageAnswer, HasNoTask, ImageOutcome}
+use Rattle.sched_text.specs.Outcomes.{Opened, IsWholeOrCut, TextOutcome, total, IsBehind, IsShort, ImagesAnswer, FirstCommands, HasFirstCommands, BehindCommands, CommandsAnswer, SomeCommandsAnswer, HasReadCommands, IsWholeWithin, LineOutcome, IsImage, TaskImageAnswer, HasNoTask, ImageOutcome}
 use Rattle.sched_text.proofs.FrontLaws.{line_lone, after_front, commands_front, end_more, nothing_behind}
 
 -- from a text with nothing in hand to the bytes of the source
@@ -81,9 +81,6 @@ images_stop fault.ReadFault line h hand left mid left' has stops =
 images_stop fault.Memory line h hand left mid left' has stops = tt
 
 -- header and images were read
-abbrev pub Opened : ℕ → Header → List ℕ → List ℕ → Type 0
-Opened line h t t' = (rest : List ℕ) × Begun line h t rest × IsBehind (total h.tasks) rest t'
-
 pub opened : (line : ℕ) (h : Header) (a b c : Option (List ℕ)) → Of a b (Begun line h) → Of b c (IsBehind (total h.tasks)) → Of a c (Opened line h)
 opened line h a b c has passed = of_then a b c (Begun line h) (IsBehind (total h.tasks)) (Opened line h) has passed (λ x y z p q. (y, p, q))
 
@@ -96,7 +93,7 @@ has_commands line count h cs t m middle o reads =
 reads_end : (line count : ℕ) (cs : List Command) (m middle rest : List ℕ) → commands_after count line m ≡ Ok (cs, middle) → command_at (line + (count + 1)) count middle ≡ Ok (command.End, rest)
     → commands_after (suc count) line m ≡ Ok (cs ++ command.End ∷ [], rest)
 unfolding commands_after
-reads_end line count cs m middle rest given next = ap (next_command (line + suc count) count) given ∙ ap (joined cs) (rw (add-one count) at next)
+reads_end line count cs m middle rest given next = ap (next_command (line + suc count) count) given ∙ ap (with_command cs) (rw (add-one count) at next)
 
 whole_text : (line count : ℕ) (h : Header) (cs : List Command) (t m middle rest : List ℕ) → Opened line h t m → commands_after count line m ≡ Ok (cs, middle)
     → command_at (line + (count + 1)) count middle ≡ Ok (command.End, rest) → IsWhole t (cs ++ command.End ∷ [])
@@ -216,7 +213,7 @@ halts_so line most line' h hand left mid left' o halts =
     (λ b b' s. (line, s.0, hand ++ b', s.1, s.2, halts.2, omega (arith, length-append hand b', halts.1)))
 
 -- as many commands as there are
-length_joined : (y : List Command × List ℕ) (r : Result (Command × List ℕ) LineFault) (n : ℕ) (x : List Command × List ℕ) → length y.0 ≡ n → joined y.0 r ≡ Ok x → length x.0 ≡ suc n
+length_joined : (y : List Command × List ℕ) (r : Result (Command × List ℕ) LineFault) (n : ℕ) (x : List Command × List ℕ) → length y.0 ≡ n → with_command y.0 r ≡ Ok x → length x.0 ≡ suc n
 length_joined y (Err f) n x len e = absurd cc
 length_joined y (Ok z) n x len e =
     let same : ◌≡◌ {A = List Command × List ℕ} (y.0 ++ z.0 ∷ [], z.1) x = cc in

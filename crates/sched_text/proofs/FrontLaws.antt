@@ -6,7 +6,7 @@ use Rattle.std.proofs.Math.Bool.{or-false}
 use Rattle.sched_text.specs.Lines.{LineCut, Line, Long, Open, put_front, line_within, line_at}
 use Rattle.sched_text.specs.Header.{HeaderLines, NoLine, with_line, refuse, row_cut, header_cut, next_line, after}
 use Rattle.sched_text.specs.Rows.{command_of}
-use Rattle.sched_text.specs.Commands.{is_end, end_at, command_row, command_cut, command_at, commands_after, next_command, joined}
+use Rattle.sched_text.specs.Commands.{is_end, end_at, command_row, command_cut, command_at, commands_after, next_command, with_command}
 use Rattle.sched_text.specs.Text.{has_end}
 use Rattle.sched_text.specs.declared.schedule.Command.{Command}
 use Rattle.sched_text.specs.declared.schedule.Command.TheVariants as command
@@ -116,13 +116,13 @@ neither : (b d : Bool) → (b || d) ≡ false → (b ≡ false) × (d ≡ false)
 neither true d e = absurd (true≢false e)
 neither false d e = (refl, e)
 
-joined_front : (line n : ℕ) (s rest : List ℕ) (ds cs : List Command) (r : Result (Command × List ℕ) LineFault) → has_end cs ≡ false → command_at line n s ≡ r → joined ds r ≡ Ok (cs, rest)
-    → (has_end ds ≡ false) × (x : List ℕ) × (s ≡ x ++ rest) × ((v : List ℕ) → joined ds (command_at line n (x ++ v)) ≡ Ok (cs, v))
+joined_front : (line n : ℕ) (s rest : List ℕ) (ds cs : List Command) (r : Result (Command × List ℕ) LineFault) → has_end cs ≡ false → command_at line n s ≡ r → with_command ds r ≡ Ok (cs, rest)
+    → (has_end ds ≡ false) × (x : List ℕ) × (s ≡ x ++ rest) × ((v : List ℕ) → with_command ds (command_at line n (x ++ v)) ≡ Ok (cs, v))
 joined_front line n s rest ds cs (Ok (c, rest')) other is e =
     let both = parts (ds ++ c ∷ []) cs rest' rest e in
     let none = neither (has_end ds) (is_end c) (sym (end_more ds c) ∙ ap has_end both.0 ∙ other) in
     let f = command_front line n s rest c (line_at s) none.1 refl (is ∙ ap (λ (u : List ℕ). Ok (c, u)) both.1) in
-    (none.0, f.0, f.1, λ v. ap (joined ds) (f.2 v) ∙ ap (λ (q : List Command). Ok (q, v)) both.0)
+    (none.0, f.0, f.1, λ v. ap (with_command ds) (f.2 v) ∙ ap (λ (q : List Command). Ok (q, v)) both.0)
 joined_front line n s rest ds cs (Err f) other is e = absurd cc
 
 commands_by : (n base : ℕ) (t rest : List ℕ) (cs : List Command) (r : Result (List Command × List ℕ) LineFault) → has_end cs ≡ false → commands_after n base t ≡ r

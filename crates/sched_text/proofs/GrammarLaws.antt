@@ -142,7 +142,7 @@ more_irq h next rows w s e =
 more_images : (h : Header) (next : HeaderLines) (rows : List (List ℕ)) (w : List ℕ) → AreRows rows h → with_images h w ≡ Ok next → SoFar next (rows ++ w ∷ [])
 more_images h next rows w s e =
     by_if (has_form w (codes "images") 1) (Ok (Whole h)) (Err reason.NotWord) next e
-    (λ is f. so_far (Whole h) next (rows ++ w ∷ []) f (record { before = rows; images_row = w; rows_are = refl; said = s; images = is }))
+    (λ is f. so_far (Whole h) next (rows ++ w ∷ []) f (record { before = rows; images_row = w; rows_are = refl; are = s; images = is }))
     (λ _ f. absurd cc)
 
 more_or_images : (h : Header) (next : HeaderLines) (rows : List (List ℕ)) (w : List ℕ) → AreRows rows h → irq_or_images h w ≡ Ok next → SoFar next (rows ++ w ∷ [])

@@ -225,7 +225,7 @@ header_read : (rows : List (List ℕ)) (h : Header) → IsHeader h → AreHeader
 unfolding Reads
 header_read rows h is s =
     subst (λ (r : List (List ℕ)). Reads NoLine r (Whole h)) (sym s.rows_are)
-    (reads_more NoLine (Rows h) (Whole h) s.before (s.images_row ∷ []) (rows_read s.before h is s.said) (Whole h, images_read h s.images_row (omega (arith, is.one_task)) s.images, refl))
+    (reads_more NoLine (Rows h) (Whole h) s.before (s.images_row ∷ []) (rows_read s.before h is s.are) (Whole h, images_read h s.images_row (omega (arith, is.one_task)) s.images, refl))
 
 -- the lines of a header, with what follows them, have that header
 pub is_read : (text rest : List ℕ) (lines : ℕ) (h : Header) → IsGrammatical text lines h rest → IsHeader h → HasHeader text lines h rest

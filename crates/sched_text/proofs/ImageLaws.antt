@@ -68,6 +68,7 @@ image_within a b image len h short =
 pub took : (hand hand' image image' : List ℕ) (len : ℕ) → length image ≤ len → image' ≡ image ++ take (min (len - length image) (length hand)) hand
     → hand' ≡ drop (min (len - length image) (length hand)) hand
     → (length image' ≤ len) × (length image' < len → hand' ≡ []) × (len ≤ length image + length hand → length image' ≡ len) × (0 < length hand → length image < len → length image < length image')
+    × (length image + length hand ≤ len → hand' ≡ [])
 took hand hand' image image' len short i w =
     let n = min (len - length image) (length hand) in
     let size : length image' ≡ length image + length (take n hand) = ap length i ∙ length-append image (take n hand) in
@@ -76,4 +77,5 @@ took hand hand' image image' len short i w =
       λ less. let all : length hand ≤ n = omega (arith, size, part, less) in w ∙ drop_all n hand all,
       λ enough. omega (arith, size, part, enough),
       λ some more. omega (arith, size, part, some, more),
+      λ few. let all : length hand ≤ n = omega (arith, few) in w ∙ drop_all n hand all,
     )

@@ -7,8 +7,8 @@ use Rattle.ctr_port.specs.InHand.{Of}
 use Rattle.ctr_port.proofs.InHand.{of_then}
 use Rattle.sched_text.specs.Header.{refuse}
 use Rattle.sched_text.specs.Images.{image_at, ImageAnswer, IsWithin}
-use Rattle.sched_text.specs.Commands.{is_end, command_at, commands_after, next_command, joined}
-use Rattle.sched_text.specs.Reader.{counted}
+use Rattle.sched_text.specs.Commands.{is_end, command_at, commands_after, next_command, with_command}
+use Rattle.sched_text.specs.Reader.{count_after}
 use Rattle.sched_text.specs.Text.{has_end}
 use Rattle.sched_text.specs.declared.schedule.TaskLine.{TaskLine}
 use Rattle.sched_text.specs.declared.schedule.Command.{Command}
@@ -51,14 +51,14 @@ unfolding commands_after
 no_commands lines None = tt
 no_commands lines (Some t) = ([], (refl, refl))
 
-pub counted_one : (n : ℕ) (c : Command) → is_end c ≡ false → counted n (Ok c) ≡ n + 1
+pub counted_one : (n : ℕ) (c : Command) → is_end c ≡ false → count_after n (Ok c) ≡ n + 1
 counted_one n c e = rw e refl
 
 gives_more : (lines count : ℕ) (cs : List Command) (c : Command) (t t' t'' : List ℕ) → is_end c ≡ false → FirstCommands lines count cs t t' → command_at (lines + (count + 1)) count t' ≡ Ok (c, t'')
     → FirstCommands lines (count + 1) (cs ++ c ∷ []) t t''
 unfolding commands_after
 gives_more lines count cs c t t' t'' other given next = (
-  rw (add-one count) (ap (next_command (lines + suc count) count) given.0 ∙ ap (joined cs) (rw (add-one count) at next)),
+  rw (add-one count) (ap (next_command (lines + suc count) count) given.0 ∙ ap (with_command cs) (rw (add-one count) at next)),
   end_more cs c ∙ or_from (has_end cs) (is_end c) given.1 other,
 )
 

@@ -9,7 +9,7 @@ use Rattle.std.proofs.lemmas.List.Sums.{sum_by-le}
 use Rattle.sched_text.specs.declared.irqs.Mark.{Mark}
 use Rattle.sched_text.specs.declared.schedule.IrqLine.{IrqLine}
 use Rattle.sched_text.specs.Irqs.{lines_of_task, last, order_refusal, irq_refusal, follow_on, AllFollow, IsIrq}
-use Rattle.sched_text.specs.Marks.{no_mark, noted, note, mark_of, mark_refusal, Marked}
+use Rattle.sched_text.specs.Marks.{no_mark, mark_with, note, mark_of, mark_refusal, Marked}
 use Rattle.sched_text.specs.declared.faults.Reason.TheVariants as reason
 use Rattle.sched_text.specs.Rows.{IsTask}
 use Rattle.sched_text.specs.Progress.{Sound, start}
@@ -37,7 +37,7 @@ TellsLast m (Some x) = (0 < m.count) × (m.step ≡ x.step) × (m.cause ≡ x.ca
 abbrev Tells : Mark → List IrqLine → Type 0
 Tells m lines = (m.count ≡ length lines) × TellsLast m (last lines)
 
-tells_noted : (m : Mark) (lines : List IrqLine) (x : IrqLine) → Tells m lines → Tells (noted m x) (lines ++ x ∷ [])
+tells_noted : (m : Mark) (lines : List IrqLine) (x : IrqLine) → Tells m lines → Tells (mark_with m x) (lines ++ x ∷ [])
 tells_noted m lines x t = (
   omega (arith, t.0, length-append lines (x ∷ [])),
   rw (fold-append (λ _ irq. Some irq) None lines (x ∷ [])) (omega arith, refl, refl),
@@ -46,9 +46,9 @@ tells_noted m lines x t = (
 -- one line more, of this task or of another
 told_by : (b : Bool) (task : ℕ) (x : IrqLine) (irqs lines : List IrqLine) (m : Mark) → Tells m lines
     → ((lines' : List IrqLine) (m' : Mark) → Tells m' lines' → Tells (fold (note task) m' irqs) (lines' ++ lines_of_task task irqs))
-    → Tells (fold (note task) (if b then noted m x else m) irqs) (lines ++ cond b (x ∷ lines_of_task task irqs) (lines_of_task task irqs))
+    → Tells (fold (note task) (if b then mark_with m x else m) irqs) (lines ++ cond b (x ∷ lines_of_task task irqs) (lines_of_task task irqs))
 told_by true task x irqs lines m t next =
-    subst (Tells (fold (note task) (noted m x) irqs)) (append_assoc lines (x ∷ []) (lines_of_task task irqs)) (next (lines ++ x ∷ []) (noted m x) (tells_noted m lines x t))
+    subst (Tells (fold (note task) (mark_with m x) irqs)) (append_assoc lines (x ∷ []) (lines_of_task task irqs)) (next (lines ++ x ∷ []) (mark_with m x) (tells_noted m lines x t))
 told_by false task x irqs lines m t next = next lines m t
 
 told : (task : ℕ) (irqs lines : List IrqLine) (m : Mark) → Tells m lines → Tells (fold (note task) m irqs) (lines ++ lines_of_task task irqs)

@@ -6,7 +6,7 @@ use Rattle.std.proofs.lemmas.List.Folds.{list_any-append}
 use Rattle.sched_text.specs.Lines.{LineCut, Line, Long, Open, put_front, line_within, line_at}
 use Rattle.sched_text.specs.Rows.{command_of}
 use Rattle.sched_text.specs.Header.{HeaderLines, NoLine, Versioned, Counted, LaidOut, Rows, Whole, with_line, row_cut, header_cut, refuse, after, is_whole, HasHeader, HeaderBreak}
-use Rattle.sched_text.specs.Commands.{is_end, end_at, command_row, command_cut, command_at, commands_after, next_command, joined}
+use Rattle.sched_text.specs.Commands.{is_end, end_at, command_row, command_cut, command_at, commands_after, next_command, with_command}
 use Rattle.sched_text.specs.Text.{images_len, ImagesBreak, has_end, CommandsBreak, TextBreak, IsWhole, WholeOrBroken}
 use Rattle.sched_text.specs.declared.schedule.Header.{Header}
 use Rattle.sched_text.specs.declared.schedule.Command.{Command}
@@ -143,7 +143,7 @@ ends_by false d e left right = right e
 
 -- nothing follows `end`
 ends_step : (line k : ℕ) (y : List Command × List ℕ) (s : Result (Command × List ℕ) LineFault) (x : List Command × List ℕ) → (has_end y.0 ≡ true → y.1 ≡ []) → command_at line k y.1 ≡ s
-    → joined y.0 s ≡ Ok x → has_end x.0 ≡ true → x.1 ≡ []
+    → with_command y.0 s ≡ Ok x → has_end x.0 ≡ true → x.1 ≡ []
 ends_step line k y (Err f) x before at e has = absurd cc
 ends_step line k y (Ok z) x before at e has =
     let same : (y.0 ++ z.0 ∷ [], z.1) ≡ x = cc in
@@ -256,7 +256,7 @@ refused_there t h count cs behind f e on r =
 one_more : (t : List ℕ) (h : Front t) (count : ℕ) (cs : List Command) (behind : List ℕ) (x : Command × List ℕ) → commands_of t h count ≡ Ok (cs, behind)
     → command_at (h.lines + suc count) count behind ≡ Ok x → commands_of t h (suc count) ≡ Ok (cs ++ x.0 ∷ [], x.1)
 unfolding commands_after
-one_more t h count cs behind x e r = ap (next_command (h.lines + suc count) count) e ∙ ap (joined cs) r
+one_more t h count cs behind x e r = ap (next_command (h.lines + suc count) count) e ∙ ap (with_command cs) r
 
 told_next : (fuel : ℕ) (t : List ℕ) (h : Front t) (count : ℕ) (cs : List Command) (behind : List ℕ) (r : Result (Command × List ℕ) LineFault) → commands_of t h count ≡ Ok (cs, behind) → has_end cs ≡ false
     → length behind ≤ suc fuel → command_at (h.lines + suc count) count behind ≡ r

@@ -9,7 +9,7 @@ use Rattle.sched_text.specs.declared.schedule.Command.TheVariants as command
 use Rattle.sched_text.specs.declared.faults.Reason.{Reason}
 use Rattle.sched_text.specs.declared.faults.Reason.TheVariants as reason
 use Rattle.sched_text.specs.declared.faults.LineFault.{LineFault}
-use Rattle.sched_text.specs.declared.limits.TheConstants.{MOST_COMMANDS}
+use Rattle.sched_text.specs.declared.limits.TheConstants.{MAX_COMMANDS}
 
 abbrev pub is_end : Command → Bool
 is_end command.End = true
@@ -24,7 +24,7 @@ end_at line (b ∷ rest) = refuse (line + 1) reason.Trailing
 abbrev pub counted_at : ℕ → ℕ → List ℕ → Command → Result (Command × List ℕ) LineFault
 counted_at line count rest command =
     if is_end command then end_at line rest
-    else if nat_lt count MOST_COMMANDS then Ok (command, rest)
+    else if nat_lt count MAX_COMMANDS then Ok (command, rest)
     else refuse line reason.TooMany
 
 abbrev pub command_row : ℕ → ℕ → List ℕ → Result Command Reason
@@ -42,16 +42,16 @@ command_cut line count Open = refuse line reason.Cut
 abbrev pub command_at : ℕ → ℕ → List ℕ → Result (Command × List ℕ) LineFault
 command_at line count text = command_cut line count (line_at text)
 
-abbrev pub joined : List Command → Result (Command × List ℕ) LineFault
+abbrev pub with_command : List Command → Result (Command × List ℕ) LineFault
     → Result (List Command × List ℕ) LineFault
-joined before (Ok x) = Ok (before ++ x.0 ∷ [], x.1)
-joined before (Err f) = Err f
+with_command before (Ok x) = Ok (before ++ x.0 ∷ [], x.1)
+with_command before (Err f) = Err f
 
 -- one more command
 abbrev pub next_command : ℕ → ℕ → Result (List Command × List ℕ) LineFault
     → Result (List Command × List ℕ) LineFault
 next_command line count (Err f) = Err f
-next_command line count (Ok x) = joined x.0 (command_at line count x.1)
+next_command line count (Ok x) = with_command x.0 (command_at line count x.1)
 
 -- the first commands of a text whose lines come after line n, and what follows them
 unfoldable pub commands_after : ℕ → ℕ → List ℕ → Result (List Command × List ℕ) LineFault

@@ -10,16 +10,16 @@ use Rattle.sched_text.specs.declared.schedule.Header.{Header}
 use Rattle.sched_text.specs.declared.schedule.TaskLine.{TaskLine}
 use Rattle.sched_text.specs.declared.schedule.IrqLine.{IrqLine}
 use Rattle.sched_text.specs.declared.faults.Reason.{Reason}
-use Rattle.sched_text.specs.declared.limits.TheConstants.{LINE_LIMIT}
+use Rattle.sched_text.specs.declared.limits.TheConstants.{LINE_FEED, LINE_LIMIT}
 
 -- a line: fewer than 256 bytes, and no line feed among them
 pub record IsLine (row : List ℕ) : Type 0 where
   pub few : length row < LINE_LIMIT
-  pub no_feed : All (λ b. b ≢ 10) row
+  pub no_feed : All (λ b. b ≢ LINE_FEED) row
 
 -- some lines, each with its line feed
 abbrev pub spelled : List (List ℕ) → List ℕ
-spelled rows = flat_map (λ row. row ++ 10 ∷ []) rows
+spelled rows = flat_map (λ row. row ++ LINE_FEED ∷ []) rows
 
 -- version 1 has no branch line, and the branch word 0; version 2 has one
 abbrev pub HasBranch : Version → List (List ℕ) → ℕ → Type 0
@@ -66,7 +66,7 @@ pub record AreHeaderRows (rows : List (List ℕ)) (h : Header) : Type 0 where
   pub before : List (List ℕ)
   pub images_row : List ℕ
   pub rows_are : rows ≡ before ++ images_row ∷ []
-  pub said : AreRows before h
+  pub are : AreRows before h
   pub images : has_form images_row (codes "images") 1 ≡ true
 
 -- the text is so many such lines, and the rest

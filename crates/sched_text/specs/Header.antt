@@ -20,7 +20,7 @@ use Rattle.sched_text.specs.declared.faults.Reason.TheVariants as reason
 use Rattle.sched_text.specs.declared.faults.LineFault.{LineFault}
 use Rattle.sched_text.specs.declared.faults.ScheduleFault.{ScheduleFault}
 use Rattle.sched_text.specs.declared.faults.ScheduleFault.TheVariants as fault
-use Rattle.sched_text.specs.declared.limits.TheConstants.{MOST_TASKS}
+use Rattle.sched_text.specs.declared.limits.TheConstants.{MAX_TASKS}
 
 -- the lines of a header so far, by what they say
 pub data HeaderLines : Type 0 where
@@ -50,7 +50,7 @@ with_layout version.Two harts layout = LaidOut harts layout
 -- a task line, where there are fewer than 64
 abbrev pub add_task : Header → TaskLine → Result HeaderLines Reason
 add_task h task =
-    if nat_lt (length h.tasks) MOST_TASKS then Ok (Rows (record h { tasks = h.tasks ++ task ∷ [] }))
+    if nat_lt (length h.tasks) MAX_TASKS then Ok (Rows (record h { tasks = h.tasks ++ task ∷ [] }))
     else Err reason.TooMany
 
 abbrev pub with_task : Header → List ℕ → Result HeaderLines Reason
@@ -160,7 +160,7 @@ pub record IsHeader (h : Header) : Type 0 where
   pub layout : IsLayout h.layout
   pub branch : IsBranchWord h.branch
   pub one_task : 1 ≤ length h.tasks
-  pub few : length h.tasks ≤ MOST_TASKS
+  pub few : length h.tasks ≤ MAX_TASKS
   pub tasks : All IsTask h.tasks
   pub irqs : All (IsIrq (length h.tasks)) h.irqs
   pub order : AllFollow h.irqs

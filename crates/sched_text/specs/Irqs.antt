@@ -6,7 +6,7 @@ use Rattle.sched_text.specs.Rows.{is_cause}
 use Rattle.sched_text.specs.declared.schedule.IrqLine.{IrqLine}
 use Rattle.sched_text.specs.declared.faults.Reason.{Reason}
 use Rattle.sched_text.specs.declared.faults.Reason.TheVariants as reason
-use Rattle.sched_text.specs.declared.limits.TheConstants.{MOST_IRQS, LAST_IRQ}
+use Rattle.sched_text.specs.declared.limits.TheConstants.{MAX_IRQS, MAX_IRQ_STEP}
 
 -- those of one task
 abbrev pub lines_of_task : ℕ → List IrqLine → List IrqLine
@@ -28,7 +28,7 @@ order_refusal (Some before) irq = if is_early before irq then Some reason.IrqOrd
 -- why a line may not follow these of its task: there are 1,024, or it is early after the last
 abbrev pub refusal_after : List IrqLine → IrqLine → Option Reason
 refusal_after lines irq =
-    if nat_le MOST_IRQS (length lines) then Some reason.TooMany else order_refusal (last lines) irq
+    if nat_le MAX_IRQS (length lines) then Some reason.TooMany else order_refusal (last lines) irq
 
 -- why a line may not follow those before it
 abbrev pub irq_refusal : List IrqLine → IrqLine → Option Reason
@@ -37,7 +37,7 @@ irq_refusal before irq = refusal_after (lines_of_task irq.task before) irq
 -- a line of one of so many tasks, with its numbers in their ranges
 pub record IsIrq (tasks : ℕ) (irq : IrqLine) : Type 0 where
   pub task : irq.task < tasks
-  pub step : irq.step ≤ LAST_IRQ
+  pub step : irq.step ≤ MAX_IRQ_STEP
   pub cause : is_cause irq.cause ≡ true
 
 -- each of the lines may follow those before it

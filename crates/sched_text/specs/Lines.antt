@@ -2,7 +2,7 @@
 -- space.
 use Rattle.std.specs.Prelude.{ℕ, zero, suc, Bool, if◌then◌else◌, eqb, List, [], ◌∷◌, get_or}
 use Rattle.std.specs.List.{slice_split}
-use Rattle.sched_text.specs.declared.limits.TheConstants.{LINE_LIMIT}
+use Rattle.sched_text.specs.declared.limits.TheConstants.{LINE_FEED, LINE_LIMIT}
 
 -- what a text begins with
 pub data LineCut : Type 0 where
@@ -24,7 +24,7 @@ unfoldable pub line_within : ℕ → List ℕ → LineCut
 line_within zero text = Long
 line_within (suc room) [] = Open
 line_within (suc room) (b ∷ text) =
-    if eqb b 10 then Line [] text else put_front b (line_within room text)
+    if eqb b LINE_FEED then Line [] text else put_front b (line_within room text)
 
 abbrev pub line_at : List ℕ → LineCut
 line_at text = line_within LINE_LIMIT text

@@ -2,11 +2,11 @@
 use Rattle.std.specs.Prelude.{◌≡◌, ◌⊎◌, ℕ, ◌+◌, ◌<◌, ◌≤◌, List, [], ◌++◌, length, take, drop}
 use Rattle.std.specs.Prelude.{Option, Some, None, Result, Ok, Err, ⊤, Bool, true, false}
 use Rattle.std.specs.List.{sum_by}
-use Rattle.ctr_port.specs.InHand.{Of}
+use Rattle.ctr_port.specs.InHand.{Of, text_of}
 use Rattle.sched_text.specs.Lines.{Open, line_at}
 use Rattle.sched_text.specs.Images.{IsWithin}
 use Rattle.sched_text.specs.Commands.{command_at, commands_after}
-use Rattle.sched_text.specs.Reader.{EndsAt}
+use Rattle.sched_text.specs.Reader.{Reader, EndsAt}
 use Rattle.sched_text.specs.Header.{HasHeader}
 use Rattle.sched_text.specs.Text.{TextBreak, IsWhole, HasCommands, HasImage, has_end, images_len}
 use Rattle.sched_text.specs.declared.schedule.Header.{Header}
@@ -44,6 +44,22 @@ IsBehind len t t' = (len ≤ length t) × (t' ≡ drop len t)
 
 abbrev pub IsShort : ℕ → ℕ → LineFault → List ℕ → Type 0
 IsShort line len f t = (length t < len) × (f ≡ record { line = line; reason = reason.Cut })
+
+-- a header whose last line has this number, and its images, stand at the front of a text
+abbrev pub Opened : ℕ → Header → List ℕ → List ℕ → Type 0
+Opened line h t t' = (rest : List ℕ) × HasHeader t line h rest × IsBehind (total h.tasks) rest t'
+
+-- a reader stands behind them; or the fault is that of the text
+pub record IsOpen (left left' : Option (List ℕ)) (r : Reader) : Type 0 where
+  pub header : Header
+  pub free : r.refused ≡ None
+  pub goes_on : r.ended ≡ false
+  pub none : r.commands ≡ 0
+  pub opened : Of (text_of [] left) (text_of r.hand left') (Opened r.line header)
+
+abbrev pub OpenAnswer : Option (List ℕ) → Option (List ℕ) → Result Reader ScheduleFault → Type 0
+OpenAnswer left left' (Ok r) = IsOpen left left' r
+OpenAnswer left left' (Err f) = TextOutcome left left' (Err f)
 
 -- images of so many bytes together
 abbrev pub ImagesAnswer : ℕ → ℕ → Option (List ℕ) → Option (List ℕ) → List ℕ

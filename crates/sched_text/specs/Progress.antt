@@ -27,7 +27,7 @@ use Rattle.sched_text.specs.declared.faults.Reason.TheVariants as reason
 use Rattle.sched_text.specs.declared.faults.LineFault.{LineFault}
 use Rattle.sched_text.specs.declared.faults.ScheduleFault.{ScheduleFault}
 use Rattle.sched_text.specs.declared.faults.ScheduleFault.TheVariants as schedule
-use Rattle.sched_text.specs.declared.limits.TheConstants.{MOST_TASKS}
+use Rattle.sched_text.specs.declared.limits.TheConstants.{MAX_TASKS}
 
 -- before the first line; the number of harts and the layout are overwritten by their lines, and the
 -- branch word by its line, if there is one
@@ -62,7 +62,7 @@ branch_step p line = do
 
 abbrev pub push_task : Progress → TaskLine → Result Progress Reason
 push_task p task =
-    if nat_lt (length p.tasks) MOST_TASKS then
+    if nat_lt (length p.tasks) MAX_TASKS then
     Ok (record p { tasks = p.tasks ++ task ∷ []; place = place.Tasks })
     else Err reason.TooMany
 
@@ -170,7 +170,7 @@ pub record Sound (p : Progress) : Type 0 where
   pub harts : p.harts ≤ 16
   pub layout : IsLayout p.layout
   pub branch : IsBranchWord p.branch
-  pub few : length p.tasks ≤ MOST_TASKS
+  pub few : length p.tasks ≤ MAX_TASKS
   pub tasks : All IsTask p.tasks
   pub irqs : All (IsIrq (length p.tasks)) p.irqs
   pub order : AllFollow p.irqs

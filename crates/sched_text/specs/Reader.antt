@@ -43,13 +43,13 @@ CommandAnswer defined text text' hand (Err fault.ReadFault) =
     (line_at hand ≡ Open) × Of text text' (λ t t'. (t' ≡ t) ⊎ ((hand ≡ []) × EndsAt (line_at t) t'))
 
 -- the fault of a command among those of the whole schedule
-abbrev pub widened : CommandFault → ScheduleFault
-widened (fault.Line f) = schedule.Line f
-widened fault.ReadFault = schedule.ReadFault
+abbrev pub schedule_fault : CommandFault → ScheduleFault
+schedule_fault (fault.Line f) = schedule.Line f
+schedule_fault fault.ReadFault = schedule.ReadFault
 
 abbrev pub refusal : Result Command CommandFault → Option ScheduleFault
 refusal (Ok command) = None
-refusal (Err f) = Some (widened f)
+refusal (Err f) = Some (schedule_fault f)
 
 -- nothing follows the line `end`, or something does. After a failed read nothing is in hand, and
 -- nothing was passed over
@@ -60,9 +60,9 @@ EndAnswer line text text' hand (Err (fault.Line f)) = Of text text' (λ t t'. en
 EndAnswer line text text' hand (Err fault.ReadFault) = (hand ≡ []) × Of text text' (λ t t'. t' ≡ t)
 
 -- the answer of a call that read the line `end`
-abbrev pub ended : Result (Unit {0}) CommandFault → Result Command CommandFault
-ended (Ok _) = Ok command.End
-ended (Err f) = Err f
+abbrev pub end_answer : Result (Unit {0}) CommandFault → Result Command CommandFault
+end_answer (Ok _) = Ok command.End
+end_answer (Err f) = Err f
 
 -- before the first line
 abbrev pub fresh : Reader
@@ -73,10 +73,10 @@ abbrev pub refusal_of : {A : Type 0} → Result A ScheduleFault → Option Sched
 refusal_of (Ok x) = None
 refusal_of (Err f) = Some f
 
--- how many command lines came, after a call; `end` isn't counted
-abbrev pub counted : ℕ → Result Command CommandFault → ℕ
-counted count (Ok command) = if is_end command then count else count + 1
-counted count (Err f) = count
+-- how many command lines came, after a call; `end` isn't count_after
+abbrev pub count_after : ℕ → Result Command CommandFault → ℕ
+count_after count (Ok command) = if is_end command then count else count + 1
+count_after count (Err f) = count
 
 abbrev pub ends_now : Result Command CommandFault → Bool
 ends_now (Ok command) = is_end command

@@ -16,7 +16,7 @@ use Rattle.sched_text.specs.declared.rows.Version.TheVariants as version
 use Rattle.sched_text.specs.declared.schedule.TaskLine.{TaskLine}
 use Rattle.sched_text.specs.declared.schedule.Command.{Command}
 use Rattle.sched_text.specs.declared.schedule.Command.TheVariants as command
-use Rattle.sched_text.specs.declared.limits.TheConstants.{MOST_MEMORY, MOST_STEPS, LAST_IRQ}
+use Rattle.sched_text.specs.declared.limits.TheConstants.{MAX_MEMORY, MAX_STEPS, MAX_IRQ_STEP}
 
 -- the line has this first word, and so many words
 abbrev pub has_form : List ℕ → List ℕ → ℕ → Bool
@@ -84,9 +84,9 @@ branch_of line =
 -- the ranges of a task line
 abbrev pub task_in_range : TaskNumbers → Bool
 task_in_range n =
-    nat_le 4 n.mem && nat_le n.mem MOST_MEMORY && nat_eq (n.mem % 4) 0 && nat_le n.image n.mem
+    nat_le 4 n.mem && nat_le n.mem MAX_MEMORY && nat_eq (n.mem % 4) 0 && nat_le n.image n.mem
     && nat_le n.depth 4 && nat_le n.mctrctl (2 ^ 64 - 1) && nat_le n.vsctrctl (2 ^ 64 - 1)
-    && nat_le n.period MOST_STEPS
+    && nat_le n.period MAX_STEPS
 
 abbrev pub task_numbers : List ℕ → Result TaskNumbers Reason
 task_numbers line = do
@@ -127,11 +127,11 @@ task_of line =
 -- a task line whose numbers are in their ranges
 pub record IsTask (t : TaskLine) : Type 0 where
   pub some : 4 ≤ t.mem
-  pub most : t.mem ≤ MOST_MEMORY
+  pub most : t.mem ≤ MAX_MEMORY
   pub words : t.mem % 4 ≡ 0
   pub image : t.image ≤ t.mem
   pub depth : t.depth ≤ 4
-  pub period : t.period ≤ MOST_STEPS
+  pub period : t.period ≤ MAX_STEPS
 
 -- the numbers of the interrupts (RISC-V Privileged Architecture, mip)
 abbrev pub interrupt_numbers : List ℕ
@@ -148,7 +148,7 @@ irq_of line =
       task ← decimal line 1
       step ← decimal line 2
       cause ← decimal line 3
-      if nat_le step LAST_IRQ && is_cause cause then
+      if nat_le step MAX_IRQ_STEP && is_cause cause then
           Ok (record { task = kept task; step = step; cause = cause })
           else Err reason.Range)
     else Err reason.NotWord
@@ -159,12 +159,12 @@ run_of line = do
   hart ← decimal line 1
   task ← decimal line 2
   steps ← decimal line 3
-  if nat_le steps MOST_STEPS then Ok (command.Run (kept hart) (kept task) steps)
+  if nat_le steps MAX_STEPS then Ok (command.Run (kept hart) (kept task) steps)
       else Err reason.Range
 
 -- a command whose number of steps is in its range
 abbrev pub IsCommand : Command → Type 0
-IsCommand (command.Run hart task steps) = steps ≤ MOST_STEPS
+IsCommand (command.Run hart task steps) = steps ≤ MAX_STEPS
 IsCommand (command.Sample task) = ⊤
 IsCommand (command.Evict hart) = ⊤
 IsCommand command.End = ⊤

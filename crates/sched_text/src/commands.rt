@@ -6,10 +6,10 @@ ghost use Rattle.ctr_port.specs.Counts.{HasCause};
 ghost use Rattle.ctr_port.specs.InHand.{text_of};
 ghost use Rattle.sched_text.specs.Commands.{is_end, command_at, needs_read};
 ghost use Rattle.sched_text.specs.Rows.{IsCommand};
-ghost use Rattle.sched_text.specs.Reader.{CommandAnswer, EndAnswer, ended};
+ghost use Rattle.sched_text.specs.Reader.{CommandAnswer, EndAnswer, end_answer};
 
 use crate::faults::{CommandFault, LineFault, Reason};
-use crate::limits::{MOST_COMMANDS, WINDOW};
+use crate::limits::{MAX_COMMANDS, WINDOW};
 use crate::lines::{Stop, read_line};
 use crate::rows::command_row;
 use crate::schedule::Command;
@@ -51,7 +51,7 @@ fn finish<S: Source>(window: &mut Window, source: &mut S, line: u32) -> Result<(
 
 // The answer of a call that read the line `end`.
 fn last(finished: Result<(), CommandFault>) -> Result<Command, CommandFault>
-    ensures { result ≡ ended finished }
+    ensures { result ≡ end_answer finished }
 {
     finished?;
     Ok(Command::End)
@@ -74,7 +74,7 @@ pub(crate) fn next_command<S: Source>(
     ensures range { IfOk result IsCommand }
     ensures hand { length window.new ≤ WINDOW }
     ensures fewer { IfOk result (λ _. length window.new < WINDOW) }
-    ensures few { IfOk result (λ command. is_end command ≡ false → commands < MOST_COMMANDS) }
+    ensures few { IfOk result (λ command. is_end command ≡ false → commands < MAX_COMMANDS) }
 {
     let count = match read_line(window, source, WINDOW) {
         Ok(count) => count,
@@ -103,7 +103,7 @@ pub(crate) fn next_command<S: Source>(
     if is_end(&command) {
         return last(finish(window, source, line));
     }
-    if commands >= MOST_COMMANDS {
+    if commands >= MAX_COMMANDS {
         return Err(CommandFault::Line(LineFault {
             line,
             reason: Reason::TooMany,

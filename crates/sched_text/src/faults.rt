@@ -1,5 +1,7 @@
 //! Why a schedule is refused.
 
+use ctr_port::NoMemory;
+
 /// Why a line is refused, in the order in which the rules apply. No reader answers `NoHart`,
 /// `NotResident`, `EmptyHart`, or `NoTask` of a command: whoever performs the commands does.
 #[derive(Clone, Copy, Debug, PartialEq, Eq)]
@@ -46,6 +48,17 @@ pub enum ScheduleFault {
     ReadFault,
     /// No memory was found.
     Memory,
+}
+
+impl From<NoMemory> for ScheduleFault {
+    ghost use Rattle.std.specs.Prelude.{◌≡◌};
+    ghost use Rattle.sched_text.specs.declared.faults.ScheduleFault.TheVariants.{Memory};
+
+    ghost from_gives = { λ _ fault. fault ≡ Memory };
+
+    fn from(_: NoMemory) -> Self {
+        ScheduleFault::Memory
+    }
 }
 
 /// Why there is no command.

@@ -8,7 +8,7 @@ ghost use Rattle.sched_text.specs.Header.{HeaderAnswer, IsHeader};
 ghost use Rattle.sched_text.specs.Progress.{lines_of, is_done, Sound, OneLine};
 
 use crate::faults::{LineFault, Reason, ScheduleFault};
-use crate::limits::{HEADER_LINES, WINDOW};
+use crate::limits::{MAX_ALL_IRQS, MAX_HEADER_LINES, WINDOW};
 use crate::lines::{Stop, read_line};
 use crate::progress::{Place, Progress, StepFault};
 use crate::schedule::Header;
@@ -24,7 +24,7 @@ fn one_line<S: Source>(
     line: u32,
 ) -> Result<(), ScheduleFault>
     requires sound { Sound progress.old }
-    requires irqs { length progress.old.irqs ≤ 65537 }
+    requires irqs { length progress.old.irqs ≤ MAX_ALL_IRQS + 1 }
     ensures line { OneLine line progress.old progress.new (text_of window.old (S.left source.old))
         (text_of window.new (S.left source.new)) window.new result }
     ensures count { IfOk result (λ _. lines_of progress.old < lines_of progress.new) }
@@ -81,17 +81,14 @@ pub(crate) fn read_header<S: Source>(
     ensures heads { HeaderAnswer line.new (text_of window.old (S.left source.old))
         (text_of window.new (S.left source.new)) window.new result }
     ensures sound { IfOk result IsHeader }
-    ensures most { line.new ≤ HEADER_LINES }
+    ensures most { line.new ≤ MAX_HEADER_LINES }
     ensures hand { length window.new ≤ WINDOW }
     ensures cause { HasCause is_read (S.faults source.old) (S.faults source.new) result }
 {
     let mut progress = Progress::new(alloc);
     while !is_done(progress.place) {
         *line += 1;
-        match one_line(&mut progress, window, source, *line) {
-            Ok(()) => {}
-            Err(fault) => return Err(fault),
-        }
+        one_line(&mut progress, window, source, *line)?;
     }
     Ok(Header {
         harts: progress.harts,

@@ -1,6 +1,7 @@
 //! The bytes of an image, read from the text.
 
-ghost use Rattle.std.specs.Prelude.{◌≡◌, ◌≤◌, ◌<◌, ◌-◌, ◌++◌, length, min, take, drop, OnOk, IfOk};
+ghost use Rattle.std.specs.Prelude.{◌≡◌, ◌≤◌, ◌<◌, ◌-◌, ◌++◌, [], length, min, take, drop};
+ghost use Rattle.std.specs.Prelude.{OnOk, IfOk};
 ghost use Rattle.sched_text.specs.Causes.{is_read};
 ghost use Rattle.ctr_port.specs.Counts.{HasCause};
 ghost use Rattle.ctr_port.specs.InHand.{text_of};
@@ -28,7 +29,8 @@ fn take_front(window: &mut Window, image: &mut Image, len: usize) -> Result<(), 
     Ok(())
 }
 
-/// An image of so many bytes. `line` is the number of the line `images`.
+/// An image of so many bytes. `line` is the number of the line `images`. No byte behind the image is
+/// asked for, so nothing is in hand afterwards where no more than the image was before.
 pub(crate) fn read_image<S: Source>(
     alloc: Global,
     window: &mut Window,
@@ -42,15 +44,13 @@ pub(crate) fn read_image<S: Source>(
     ensures hand { length window.new ≤ WINDOW }
     ensures size { IfOk result (λ image. length image ≡ len) }
     ensures still { len ≤ length window.old → source.new ≡ source.old }
+    ensures exact { IfOk result (λ _. length window.old ≤ len → window.new ≡ []) }
 {
     let wanted = len as usize;
     let mut image = Image::new(alloc);
-    match take_front(window, &mut image, wanted) {
-        Ok(()) => {}
-        Err(NoMemory) => return Err(ScheduleFault::Memory),
-    }
+    take_front(window, &mut image, wanted)?;
     while image.items().len() < wanted {
-        match window.fill(source, WINDOW) {
+        match window.fill(source, wanted - image.items().len()) {
             Got::Bytes(_) => {}
             Got::End => {
                 return Err(ScheduleFault::Line(LineFault {
@@ -60,10 +60,7 @@ pub(crate) fn read_image<S: Source>(
             }
             Got::Failed => return Err(ScheduleFault::ReadFault),
         }
-        match take_front(window, &mut image, wanted) {
-            Ok(()) => {}
-            Err(NoMemory) => return Err(ScheduleFault::Memory),
-        }
+        take_front(window, &mut image, wanted)?;
     }
     Ok(image)
 }

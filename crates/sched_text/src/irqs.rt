@@ -5,7 +5,7 @@ ghost use Rattle.sched_text.specs.Irqs.{irq_refusal};
 ghost use Rattle.sched_text.specs.Marks.{mark_of, mark_refusal};
 
 use crate::faults::Reason;
-use crate::limits::{MOST_IRQS, MOST_TASKS};
+use crate::limits::{MAX_ALL_IRQS, MAX_IRQS, MAX_TASKS};
 use crate::schedule::{IrqLine, IrqLines};
 use ctr_port::NoMemory;
 use std::alloc::Global;
@@ -26,7 +26,7 @@ pub(crate) struct Mark {
 fn mark_refusal(mark: Mark, irq: IrqLine) -> Option<Reason>
     ensures { result ≡ mark_refusal mark irq }
 {
-    if mark.count >= MOST_IRQS {
+    if mark.count >= MAX_IRQS {
         return Some(Reason::TooMany);
     }
     if mark.count > 0
@@ -41,7 +41,7 @@ fn mark_refusal(mark: Mark, irq: IrqLine) -> Option<Reason>
 #[derive(Drop)]
 pub(crate) struct Irqs {
     list: IrqLines,
-    marks: [Mark; MOST_TASKS],
+    marks: [Mark; MAX_TASKS],
 }
 
 impl Model for Irqs {
@@ -66,7 +66,7 @@ impl Irqs {
                 count: 0,
                 step: 0,
                 cause: 0,
-            }; MOST_TASKS],
+            }; MAX_TASKS],
         }
     }
 
@@ -74,17 +74,17 @@ impl Irqs {
     /// lines there are.
     #[tactic(auto, using(crate::proofs::MarkLaws::marked_few))]
     pub(crate) fn refusal(&self, irq: IrqLine) -> Option<Reason>
-        requires { irq.task < MOST_TASKS }
+        requires { irq.task < MAX_TASKS }
         ensures refusal { result ≡ irq_refusal self.now irq }
         ensures mark { result ≡ mark_refusal (mark_of irq.task self.now) irq }
-        ensures few { length self.now ≤ 65536 }
+        ensures few { length self.now ≤ MAX_ALL_IRQS }
     {
         mark_refusal(self.marks[irq.task as usize], irq)
     }
 
     /// Adds a line last.
     pub(crate) fn push(&mut self, irq: IrqLine) -> Result<(), NoMemory>
-        requires task { irq.task < MOST_TASKS }
+        requires task { irq.task < MAX_TASKS }
         requires follows { mark_refusal (mark_of irq.task self.old) irq ≡ None }
         ensures { OnOk result (self.new ≡ self.old ++ irq ∷ []) }
     {

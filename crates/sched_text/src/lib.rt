@@ -20,8 +20,8 @@ mod words;
 pub use faults::{CommandFault, LineFault, Reason, ScheduleFault};
 pub use laws::text_laws;
 pub use limits::{
-    HEADER_LINES, LAST_IRQ, LINE_LIMIT, MOST_COMMANDS, MOST_IRQS, MOST_MEMORY, MOST_STEPS,
-    MOST_TASKS, WINDOW,
+    LINE_FEED, LINE_LIMIT, MAX_ALL_IRQS, MAX_COMMANDS, MAX_HEADER_LINES, MAX_IRQ_STEP, MAX_IRQS,
+    MAX_MEMORY, MAX_STEPS, MAX_TASKS, WINDOW,
 };
 pub use outcomes::{check_schedule, image_of, line_of_command};
 pub use reader::ScheduleReader;

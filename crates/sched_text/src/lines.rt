@@ -1,13 +1,13 @@
 //! One line: looked for in the bytes in hand, and read as far as it goes.
 
-ghost use Rattle.std.specs.Prelude.{◌≡◌, ◌≤◌, ◌<◌, false, length};
+ghost use Rattle.std.specs.Prelude.{◌≡◌, ◌≤◌, ◌<◌, ◌+◌, [], false, length, IfOk};
 ghost use Rattle.sched_text.specs.Causes.{is_failed};
 ghost use Rattle.ctr_port.specs.Counts.{HasCause};
 ghost use Rattle.ctr_port.specs.InHand.{Same};
 ghost use Rattle.sched_text.specs.Lines.{line_at};
 ghost use Rattle.sched_text.specs.InHand.{Sees, is_open, HasLine};
 
-use crate::limits::{LINE_LIMIT, WINDOW};
+use crate::limits::{LINE_FEED, LINE_LIMIT, WINDOW};
 use crate::window::Window;
 use ctr_port::{Got, Source};
 
@@ -30,7 +30,7 @@ pub(crate) fn line_in(hand: &[u8]) -> Seen
         if at == hand.len() {
             return Seen::Open;
         }
-        if hand[at] == b'\n' {
+        if hand[at] == LINE_FEED {
             return Seen::Line(at);
         }
     }
@@ -49,7 +49,8 @@ pub(crate) enum Stop {
 }
 
 /// Reads until a line is in hand, at most so many bytes at once, and answers how many bytes it has.
-/// It stays in hand, with its line feed.
+/// It stays in hand, with its line feed. Where nothing was in hand and one byte is read at once,
+/// nothing else is in hand then.
 #[tactic(auto, using(ctr_port::proofs::InHand::same_self, ctr_port::proofs::InHand::same_given, ctr_port::proofs::InHand::same_kept))]
 pub(crate) fn read_line<S: Source>(
     window: &mut Window,
@@ -60,6 +61,7 @@ pub(crate) fn read_line<S: Source>(
     ensures same { Same window.old (S.left source.old) window.new (S.left source.new) }
     ensures line { HasLine window.new (S.left source.new) result }
     ensures hand { length window.new ≤ WINDOW }
+    ensures exact { most ≡ 1 → window.old ≡ [] → IfOk result (λ n. length window.new ≡ n + 1) }
     ensures cause { HasCause is_failed (S.faults source.old) (S.faults source.new) result }
     ensures still { is_open (line_at window.old) ≡ false → (window.new ≡ window.old)
         × (source.new ≡ source.old) }

@@ -6,13 +6,14 @@ ghost use Rattle.sched_text.specs.Causes.{is_read};
 ghost use Rattle.ctr_port.specs.Counts.{HasCause};
 ghost use Rattle.ctr_port.specs.InHand.{text_of};
 ghost use Rattle.sched_text.specs.Reader.{refusal_of};
-ghost use Rattle.sched_text.specs.Outcomes.{TextOutcome, ImagesAnswer, CommandsAnswer, total};
+ghost use Rattle.sched_text.specs.Outcomes.{TextOutcome, OpenAnswer, ImagesAnswer};
+ghost use Rattle.sched_text.specs.Outcomes.{CommandsAnswer, total};
 ghost use Rattle.sched_text.specs.Outcomes.{SomeCommandsAnswer, LineOutcome, TaskImageAnswer};
 ghost use Rattle.sched_text.specs.Outcomes.{ImageOutcome};
 
 use crate::commands::is_end;
 use crate::faults::ScheduleFault;
-use crate::reader::{ScheduleReader, widen};
+use crate::reader::{ScheduleReader, schedule_fault};
 use crate::schedule::{Image, TaskLine};
 use ctr_port::Source;
 use std::alloc::Global;
@@ -26,10 +27,22 @@ pub fn check_schedule<S: Source>(alloc: Global, source: &mut S) -> Result<(), Sc
     ensures outcome { TextOutcome (S.left source.old) (S.left source.new) result }
     ensures cause { HasCause is_read (S.faults source.old) (S.faults source.new) result }
 {
+    let mut reader = read_to_commands(alloc, source)?;
+    commands(&mut reader, source)
+}
+
+// A reader behind the header and the images of a schedule.
+fn read_to_commands<S: Source>(
+    alloc: Global,
+    source: &mut S,
+) -> Result<ScheduleReader, ScheduleFault>
+    ensures opens { OpenAnswer (S.left source.old) (S.left source.new) result }
+    ensures cause { HasCause is_read (S.faults source.old) (S.faults source.new) result }
+{
     let mut reader = ScheduleReader::new();
     let header = reader.header(alloc, source)?;
     images(alloc, &mut reader, source, header.tasks.items())?;
-    commands(&mut reader, source)
+    Ok(reader)
 }
 
 // The images of all tasks.
@@ -69,7 +82,7 @@ fn commands<S: Source>(reader: &mut ScheduleReader, source: &mut S) -> Result<()
                     return Ok(());
                 }
             }
-            Err(fault) => return Err(widen(fault)),
+            Err(fault) => return Err(schedule_fault(fault)),
         }
     }
 }
@@ -86,9 +99,7 @@ pub fn line_of_command<S: Source>(
     ensures outcome { LineOutcome (S.left source.old) (S.left source.new) most result }
     ensures cause { HasCause is_read (S.faults source.old) (S.faults source.new) result }
 {
-    let mut reader = ScheduleReader::new();
-    let header = reader.header(alloc, source)?;
-    images(alloc, &mut reader, source, header.tasks.items())?;
+    let mut reader = read_to_commands(alloc, source)?;
     let ended = some_commands(&mut reader, source, most)?;
     if ended {
         return Ok(None);
@@ -122,7 +133,7 @@ fn some_commands<S: Source>(
                     return Ok(false);
                 }
             }
-            Err(fault) => return Err(widen(fault)),
+            Err(fault) => return Err(schedule_fault(fault)),
         }
     }
 }

@@ -7,7 +7,7 @@ ghost use Rattle.sched_text.specs.Progress.{lines_of, Sound, start};
 
 use crate::faults::Reason;
 use crate::irqs::Irqs;
-use crate::limits::MOST_TASKS;
+use crate::limits::{MAX_ALL_IRQS, MAX_TASKS};
 use crate::rows::{
     IMAGES, IRQ, TASK, Version, branch_row, harts_row, has_form, irq_row, layout_row, task_row,
     version_row,
@@ -109,7 +109,7 @@ impl Progress {
         ensures sound { IfOk result (λ _. Sound self.new) }
     {
         let task = task_row(line)?;
-        if self.tasks.items().len() >= MOST_TASKS {
+        if self.tasks.items().len() >= MAX_TASKS {
             return Err(StepFault::Refused(Reason::TooMany));
         }
         self.tasks.push(task)?;
@@ -149,7 +149,7 @@ impl Progress {
     fn after_irq(&mut self, line: &[u8]) -> Result<(), StepFault>
         requires sound { Sound self.old }
         requires some { 0 < length self.old.tasks }
-        requires irqs { length self.old.irqs ≤ 65537 }
+        requires irqs { length self.old.irqs ≤ MAX_ALL_IRQS + 1 }
         ensures step { Stepped (after_irq_step self.old line.now) self.new result }
         ensures count { IfOk result
             (λ _. length self.new.irqs + lines_before self.new.place ≡ length self.old.irqs +
@@ -173,7 +173,7 @@ impl Progress {
         requires sound { Sound self.old }
         requires some { 0 < length self.old.tasks }
         requires early { self.old.irqs ≡ [] }
-        requires irqs { length self.old.irqs ≤ 65537 }
+        requires irqs { length self.old.irqs ≤ MAX_ALL_IRQS + 1 }
         ensures step { Stepped (after_task_step self.old line.now) self.new result }
         ensures count { IfOk result
             (λ _. length self.new.tasks + length self.new.irqs + lines_before self.new.place ≡
@@ -190,7 +190,7 @@ impl Progress {
     /// What one more line says.
     pub(crate) fn step(&mut self, line: &[u8]) -> Result<(), StepFault>
         requires sound { Sound self.old }
-        requires irqs { length self.old.irqs ≤ 65537 }
+        requires irqs { length self.old.irqs ≤ MAX_ALL_IRQS + 1 }
         ensures step { Stepped (step self.old line.now) self.new result }
         ensures count { IfOk result (λ _. lines_of self.old < lines_of self.new) }
         ensures few { IfOk result (λ _. length self.new.irqs ≤ 65537) }

@@ -1,6 +1,7 @@
 //! A schedule read from its source, call by call.
 
-ghost use Rattle.std.specs.Prelude.{◌≡◌, ◌≢◌, ◌≤◌, ◌<◌, ◌+◌, None, Some, false, length, IfOk};
+ghost use Rattle.std.specs.Prelude.{◌≡◌, ◌≢◌, ◌≤◌, ◌<◌, ◌+◌, None, Some, false, [], length};
+ghost use Rattle.std.specs.Prelude.{IfOk};
 ghost use Rattle.sched_text.specs.Causes.{is_read, is_command_read};
 ghost use Rattle.ctr_port.specs.Counts.{HasCause};
 ghost use Rattle.ctr_port.specs.InHand.{text_of};
@@ -8,14 +9,14 @@ ghost use Rattle.sched_text.specs.Commands.{command_at, needs_read};
 ghost use Rattle.sched_text.specs.Header.{HeaderAnswer, IsHeader};
 ghost use Rattle.sched_text.specs.Images.{ImageAnswer};
 ghost use Rattle.sched_text.specs.Rows.{IsCommand};
-ghost use Rattle.sched_text.specs.Reader.{fresh, CommandAnswer, widened, refusal, refusal_of};
-ghost use Rattle.sched_text.specs.Reader.{counted, ends_now};
+ghost use Rattle.sched_text.specs.Reader.{fresh, CommandAnswer, schedule_fault, refusal, refusal_of};
+ghost use Rattle.sched_text.specs.Reader.{count_after, ends_now};
 
 use crate::commands::{is_end, next_command};
 use crate::faults::{CommandFault, ScheduleFault};
 use crate::header::read_header;
 use crate::images::read_image;
-use crate::limits::{HEADER_LINES, MOST_COMMANDS, WINDOW};
+use crate::limits::{MAX_COMMANDS, MAX_HEADER_LINES, WINDOW};
 use crate::schedule::{Command, Header, Image};
 use crate::window::Window;
 use ctr_port::Source;
@@ -37,8 +38,8 @@ pub struct ScheduleReader {
 impl Model for ScheduleReader {
     ghost use Rattle.std.specs.Prelude.{◌≡◌, ◌≤◌, ◌+◌, None, false, length};
     ghost use Rattle.sched_text.specs.Reader.{Reader};
-    ghost use Rattle.sched_text.specs.declared.limits.TheConstants.{WINDOW, HEADER_LINES};
-    ghost use Rattle.sched_text.specs.declared.limits.TheConstants.{MOST_COMMANDS};
+    ghost use Rattle.sched_text.specs.declared.limits.TheConstants.{WINDOW, MAX_HEADER_LINES};
+    ghost use Rattle.sched_text.specs.declared.limits.TheConstants.{MAX_COMMANDS};
 
     ghost Value = { Reader };
 
@@ -50,9 +51,9 @@ impl Model for ScheduleReader {
       hand = r.window;
     } };
 
-    ghost invariant = { λ r. (length r.window ≤ WINDOW) × (r.commands ≤ MOST_COMMANDS)
-        × (r.line ≤ HEADER_LINES + 1 + r.commands)
-        × (r.refused ≡ None → r.ended ≡ false → r.line ≤ HEADER_LINES + r.commands) };
+    ghost invariant = { λ r. (length r.window ≤ WINDOW) × (r.commands ≤ MAX_COMMANDS)
+        × (r.line ≤ MAX_HEADER_LINES + 1 + r.commands)
+        × (r.refused ≡ None → r.ended ≡ false → r.line ≤ MAX_HEADER_LINES + r.commands) };
 }
 
 impl ScheduleReader {
@@ -67,6 +68,14 @@ impl ScheduleReader {
             ended: false,
             refused: None,
         }
+    }
+
+    /// A reader of a text that is commands alone: no header and no image comes before the first of
+    /// them, whose line has the number 1.
+    pub fn commands_only() -> ScheduleReader
+        ensures { result ≡ fresh }
+    {
+        ScheduleReader::new()
     }
 
     /// The number of the line last begun, from 1; 0 before the first. Image bytes belong to no
@@ -117,6 +126,8 @@ impl ScheduleReader {
         ensures cause { self.old.refused ≡ None
             → HasCause is_read (S.faults source.old) (S.faults source.new) result }
         ensures still { len ≤ length self.old.hand → source.new ≡ source.old }
+        // No byte behind the image is taken from the source.
+        ensures exact { IfOk result (λ _. length self.old.hand ≤ len → self.new.hand ≡ []) }
         ensures again { (fault : ScheduleFault) → self.old.refused ≡ Some fault
             → (result ≡ Err fault) × (self.new ≡ self.old) × (source.new ≡ source.old) }
         ensures refused { self.new.refused ≡ refusal_of result }
@@ -144,22 +155,22 @@ impl ScheduleReader {
             (text_of self.old.hand (S.left source.old))
             (text_of self.new.hand (S.left source.new)) self.new.hand result }
         ensures range { IfOk result IsCommand }
-        ensures most { self.new.commands ≤ MOST_COMMANDS }
+        ensures most { self.new.commands ≤ MAX_COMMANDS }
         ensures hand { length self.new.hand ≤ WINDOW }
         ensures fewer { IfOk result (λ _. length self.new.hand < WINDOW) }
         ensures cause { self.old.refused ≡ None
             → HasCause is_command_read (S.faults source.old) (S.faults source.new) result }
         ensures still { needs_read self.old.hand ≡ false → source.new ≡ source.old }
-        ensures again { (fault : CommandFault) → self.old.refused ≡ Some (widened fault)
+        ensures again { (fault : CommandFault) → self.old.refused ≡ Some (schedule_fault fault)
             → (result ≡ Err fault) × (self.new ≡ self.old) × (source.new ≡ source.old) }
         ensures refused { self.new.refused ≡ refusal result }
         ensures line { self.old.refused ≡ None → self.new.line ≡ self.old.line + 1 }
         ensures count { self.old.refused ≡ None
-            → self.new.commands ≡ counted self.old.commands result }
+            → self.new.commands ≡ count_after self.old.commands result }
         ensures ended { self.old.refused ≡ None → self.new.ended ≡ ends_now result }
     {
         if let Some(fault) = self.refused {
-            return Err(narrowed(fault));
+            return Err(command_fault(fault));
         }
         self.line += 1;
         let result = next_command(&mut self.window, source, self.line, self.commands);
@@ -171,16 +182,16 @@ impl ScheduleReader {
                     self.commands += 1;
                 }
             }
-            Err(fault) => self.refused = Some(widen(fault)),
+            Err(fault) => self.refused = Some(schedule_fault(fault)),
         }
         result
     }
 }
 
 // A refusal among those of `command`.
-fn narrowed(fault: ScheduleFault) -> CommandFault
+fn command_fault(fault: ScheduleFault) -> CommandFault
     requires { fault ≢ ScheduleFault.Memory }
-    ensures { widened result ≡ fault }
+    ensures { schedule_fault result ≡ fault }
 {
     match fault {
         ScheduleFault::Line(line) => CommandFault::Line(line),
@@ -190,8 +201,8 @@ fn narrowed(fault: ScheduleFault) -> CommandFault
 }
 
 // A refusal of `command` among those of the whole schedule.
-pub(crate) fn widen(fault: CommandFault) -> ScheduleFault
-    ensures { result ≡ widened fault }
+pub(crate) fn schedule_fault(fault: CommandFault) -> ScheduleFault
+    ensures { result ≡ schedule_fault fault }
 {
     match fault {
         CommandFault::Line(line) => ScheduleFault::Line(line),

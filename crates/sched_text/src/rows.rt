@@ -9,7 +9,7 @@ ghost use Rattle.perf_sample.specs.Layout.{IsLayout, IsBranchWord};
 ghost use Rattle.sched_text.specs.Numbers.{kept};
 
 use crate::faults::Reason;
-use crate::limits::{LAST_IRQ, MOST_MEMORY, MOST_STEPS};
+use crate::limits::{MAX_IRQ_STEP, MAX_MEMORY, MAX_STEPS};
 use crate::schedule::{Command, TaskLine};
 use crate::words::{number, split_word, word_count};
 use perf_sample::{HW_INDEX, Layout};
@@ -182,17 +182,12 @@ pub(crate) fn task_row(line: &[u8]) -> Result<TaskLine, Reason>
         return Err(Reason::NotWord);
     }
     let n = task_numbers(line)?;
-    if n.mem < 4
-        || n.mem > MOST_MEMORY as u128
-        || n.mem % 4 != 0
-        || n.image > n.mem
-        || n.depth > 4
-    {
+    if n.mem < 4 || n.mem > MAX_MEMORY as u128 || n.mem % 4 != 0 || n.image > n.mem || n.depth > 4 {
         return Err(Reason::Range);
     }
     if n.mctrctl > u64::MAX as u128
         || n.vsctrctl > u64::MAX as u128
-        || n.period > MOST_STEPS as u128
+        || n.period > MAX_STEPS as u128
     {
         return Err(Reason::Range);
     }
@@ -223,7 +218,7 @@ pub(crate) struct IrqWords {
 
 pub(crate) fn irq_row(line: &[u8]) -> Result<IrqWords, Reason>
     ensures irq { result ≡ irq_of line.now }
-    ensures range { IfOk result (λ irq. (irq.step ≤ LAST_IRQ) × (is_cause irq.cause ≡ true)) }
+    ensures range { IfOk result (λ irq. (irq.step ≤ MAX_IRQ_STEP) × (is_cause irq.cause ≡ true)) }
 {
     if !has_form(line, IRQ, 4) {
         return Err(Reason::NotWord);
@@ -232,7 +227,7 @@ pub(crate) fn irq_row(line: &[u8]) -> Result<IrqWords, Reason>
     let (task, rest) = decimal(rest)?;
     let (step, rest) = decimal(rest)?;
     let (cause, _) = decimal(rest)?;
-    if step > LAST_IRQ as u128 || !is_cause(cause) {
+    if step > MAX_IRQ_STEP as u128 || !is_cause(cause) {
         return Err(Reason::Range);
     }
     Ok(IrqWords {
@@ -282,7 +277,7 @@ fn run_row(line: &[u8]) -> Result<Command, Reason>
     let (hart, rest) = decimal(rest)?;
     let (task, rest) = decimal(rest)?;
     let (steps, _) = decimal(rest)?;
-    if steps > MOST_STEPS as u128 {
+    if steps > MAX_STEPS as u128 {
         return Err(Reason::Range);
     }
     Ok(Command::Run {

@@ -1,7 +1,8 @@
 ghost use Rattle.std.specs.Prelude.{◌≡◌, ◌<◌, IfOk};
-ghost use Rattle.sched_text.specs.Reader.{fresh, widened};
+ghost use Rattle.sched_text.specs.Reader.{fresh};
 
 use super::*;
+use crate::reader::schedule_fault;
 use ctr_port::MemSource;
 use std::alloc::Global;
 use std::process::Abort;
@@ -64,16 +65,6 @@ fn refused(line: u32, reason: Reason) -> Option<ScheduleFault> {
     Some(ScheduleFault::Line(LineFault { line, reason }))
 }
 
-// A refusal of a command among those of the whole schedule.
-fn widen(fault: CommandFault) -> ScheduleFault
-    ensures { result ≡ widened fault }
-{
-    match fault {
-        CommandFault::Line(line) => ScheduleFault::Line(line),
-        CommandFault::ReadFault => ScheduleFault::ReadFault,
-    }
-}
-
 // The parts of a text, one behind another.
 fn joined(alloc: Global, parts: &[&str]) -> Result<Vec<u8>, Fail> {
     let mut text = Vec::new(alloc);
@@ -132,7 +123,7 @@ fn read_all(
                 return Ok(Answers {
                     images,
                     commands,
-                    fault: Some(widen(fault)),
+                    fault: Some(schedule_fault(fault)),
                 });
             }
         }

@@ -1,7 +1,7 @@
 ghost use Rattle.std.specs.Prelude.{◌≡◌, Some};
-ghost use Rattle.sched_text.specs.Reader.{widened};
+ghost use Rattle.sched_text.specs.Reader.{schedule_fault};
 
-use super::{Answers, EVERY_LINE, SCHEDULE, START, TASK, joined, read_all, repeat, widen};
+use super::{Answers, EVERY_LINE, SCHEDULE, START, TASK, joined, read_all, repeat, schedule_fault};
 use crate::{CommandFault, LineFault, Reason, ScheduleFault, ScheduleReader};
 use ctr_port::{Got, MemSource, Source};
 use std::alloc::Global;
@@ -16,12 +16,18 @@ fn answers_again(
     source: &mut MemSource,
     fault: CommandFault,
 )
-    requires { reader.old.refused ≡ Some (widened fault) }
+    requires { reader.old.refused ≡ Some (schedule_fault fault) }
 {
     let line = reader.line();
     assert_eq!(rt; reader.command(source), Err(fault));
-    assert_eq!(rt; reader.image(alloc, source, 4).err(), Some(widen(fault)));
-    assert_eq!(rt; reader.image(alloc, source, 0).err(), Some(widen(fault)));
+    assert_eq!(rt;
+        reader.image(alloc, source, 4).err(),
+        Some(schedule_fault(fault))
+    );
+    assert_eq!(rt;
+        reader.image(alloc, source, 0).err(),
+        Some(schedule_fault(fault))
+    );
     assert_eq!(rt; reader.command(source), Err(fault));
     assert_eq!(rt; reader.command(source), Err(fault));
     assert_eq!(rt; reader.line(), line);
@@ -52,7 +58,7 @@ fn is_told_again(
 ) -> Result<(), Fail> {
     let mut reader = ScheduleReader::new();
     let answers = read_all(alloc, &mut reader, source)?;
-    assert_eq!(rt; answers.fault, Some(widen(fault)));
+    assert_eq!(rt; answers.fault, Some(schedule_fault(fault)));
     answers_again(rt, alloc, &mut reader, source, fault);
     let mut buf = [0u8; 1];
     assert_eq!(rt; source.read(&mut buf), Got::Failed, "after {fault:?}");

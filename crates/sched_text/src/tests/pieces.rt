@@ -1,8 +1,8 @@
 ghost use Rattle.std.specs.Prelude.{◌<◌};
 
-use super::{Answers, SCHEDULE, comes_to, joined, read_all};
+use super::{Answers, SCHEDULE, START, comes_to, joined, read_all, repeat};
 use crate::{Command, ScheduleReader};
-use ctr_port::MemSource;
+use ctr_port::{Got, MemSource, Source};
 use std::alloc::Global;
 use std::process::Abort;
 use std::test::*;
@@ -154,5 +154,42 @@ fn a_window_may_end_at_any_byte_of_an_image_or_a_line(rt: HostRuntime) -> Result
             is_read_as_written(&rt, rt.alloc(), (length, 41), 300, piece)?;
         }
     }
+    Ok(())
+}
+
+#[test]
+fn no_byte_behind_an_image_is_taken_with_it(rt: HostRuntime) -> Result<(), Fail> {
+    let mut text = joined(rt.alloc(), &[START, "task 9000 9000 0 4 0 0\nimages\n"])?;
+    repeat(&mut text, "abc", 3000)?;
+    text.extend_from_slice(b"end\n")?;
+    for piece in [1, 7, 4096, 10_000] {
+        let mut source = MemSource::new(rt.alloc(), &text, &[piece], &[])?;
+        let mut reader = ScheduleReader::new();
+        let header = reader.header(rt.alloc(), &mut source);
+        assert!(rt; header.is_ok(), "at {piece}");
+        let image = reader.image(rt.alloc(), &mut source, 9000);
+        assert!(rt; image.is_ok(), "at {piece}");
+        let mut left = 0usize;
+        let mut buf = [0; 16];
+        for _ in 0..16 {
+            if let Got::Bytes(count) = source.read(&mut buf) {
+                left = left.saturating_add(count);
+            }
+        }
+        assert_eq!(rt; left, 4, "at {piece}");
+    }
+    Ok(())
+}
+
+#[test]
+fn commands_alone_are_read(rt: HostRuntime) -> Result<(), Fail> {
+    let mut source = MemSource::new(rt.alloc(), b"evict 3\nend\n", &[5], &[])?;
+    let mut reader = ScheduleReader::commands_only();
+    let first = reader.command(&mut source);
+    assert_eq!(rt; first, Ok(Command::Evict { hart: 3 }));
+    assert_eq!(rt; reader.line(), 1);
+    let last = reader.command(&mut source);
+    assert_eq!(rt; last, Ok(Command::End));
+    assert_eq!(rt; reader.line(), 2);
     Ok(())
 }

@@ -20,13 +20,13 @@ returns-in-Err-row-clause-shows g c =
     let given = line_passed c.args.window.now c.read_line.new.window c.pass.new.self c.bytes.result.now front c.in-Ok.count left left' c.in-Ok.ensures.same c.in-Ok.ensures.line.1 c.bytes.ensures.bytes c.split_at.ensures.front c.pass.ensures in
     row_refused (text_of c.args.window.now left) (text_of c.pass.new.self left') c.args.line c.args.commands front c.in-Err-row.reason given (sym c.command_row-row.ensures.command ∙ c.in-Err-row.is)
 
-pub returns-then-commands-ge-MOST_COMMANDS-clause-shows : goal.returns-then-commands-ge-MOST_COMMANDS-clause-shows
-returns-then-commands-ge-MOST_COMMANDS-clause-shows g c =
+pub returns-then-commands-ge-MAX_COMMANDS-clause-shows : goal.returns-then-commands-ge-MAX_COMMANDS-clause-shows
+returns-then-commands-ge-MAX_COMMANDS-clause-shows g c =
     let left = g.S.Source.left c.args.source.now in
     let left' = g.S.Source.left c.read_line.new.source in
     let front = c.split_at.result.0.now in
     let given = line_passed c.args.window.now c.read_line.new.window c.pass.new.self c.bytes.result.now front c.in-Ok.count left left' c.in-Ok.ensures.same c.in-Ok.ensures.line.1 c.bytes.ensures.bytes c.split_at.ensures.front c.pass.ensures in
-    row_over (text_of c.args.window.now left) (text_of c.pass.new.self left') c.args.line c.args.commands front c.in-Ok-row.command given (sym c.command_row-row.ensures.command ∙ c.in-Ok-row.is) (sym c.is_end.ensures ∙ c.if-is_end.false) c.if-commands-ge-MOST_COMMANDS.true
+    row_over (text_of c.args.window.now left) (text_of c.pass.new.self left') c.args.line c.args.commands front c.in-Ok-row.command given (sym c.command_row-row.ensures.command ∙ c.in-Ok-row.is) (sym c.is_end.ensures ∙ c.if-is_end.false) c.if-commands-ge-MAX_COMMANDS.true
 
 pub returns-clause-shows : goal.returns-clause-shows
 returns-clause-shows g c =
@@ -34,7 +34,7 @@ returns-clause-shows g c =
     let left' = g.S.Source.left c.read_line.new.source in
     let front = c.split_at.result.0.now in
     let given = line_passed c.args.window.now c.read_line.new.window c.pass.new.self c.bytes.result.now front c.in-Ok.count left left' c.in-Ok.ensures.same c.in-Ok.ensures.line.1 c.bytes.ensures.bytes c.split_at.ensures.front c.pass.ensures in
-    row_taken (text_of c.args.window.now left) (text_of c.pass.new.self left') c.args.line c.args.commands front c.in-Ok-row.command given (sym c.command_row-row.ensures.command ∙ c.in-Ok-row.is) (sym c.is_end.ensures ∙ c.if-is_end.false) c.if-commands-ge-MOST_COMMANDS.false
+    row_taken (text_of c.args.window.now left) (text_of c.pass.new.self left') c.args.line c.args.commands front c.in-Ok-row.command given (sym c.command_row-row.ensures.command ∙ c.in-Ok-row.is) (sym c.is_end.ensures ∙ c.if-is_end.false) c.if-commands-ge-MAX_COMMANDS.false
 
 pub returns-then-is_end-clause-shows : goal.returns-then-is_end-clause-shows
 returns-then-is_end-clause-shows g c =

@@ -1,6 +1,6 @@
 use Rattle.std.proofs.Common.{◌≤◌, ◌-◌, length}
 use Rattle.ctr_port.specs.InHand.{text_of, Of}
-use Rattle.sched_text.specs.declared.limits.TheConstants.{WINDOW, HEADER_LINES}
+use Rattle.sched_text.specs.declared.limits.TheConstants.{WINDOW, MAX_HEADER_LINES}
 use Rattle.sched_text.specs.Progress.{lines_of, Sound}
 use Rattle.sched_text.proofs.HeaderLaws.{Came}
 use Rattle.sched_text.proofs.header.read_header.Given as goal
@@ -15,4 +15,4 @@ invariant-loop-line g l =
     × (g.S.Source.faults l.fn.source ≤ g.S.Source.faults l.source)
 
 abbrev pub decreases-loop-line : goal.decreases-loop-line
-decreases-loop-line g l = HEADER_LINES - lines_of l.progress
+decreases-loop-line g l = MAX_HEADER_LINES - lines_of l.progress

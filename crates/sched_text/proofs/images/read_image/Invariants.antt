@@ -12,6 +12,7 @@ invariant-loop-window g l =
     × (length l.window ≤ WINDOW)
     × (g.S.Source.faults l.fn.source ≤ g.S.Source.faults l.source)
     × (l.wanted ≤ length l.fn.window → (length l.image ≡ l.wanted) × (l.source ≡ l.fn.source))
+    × (length l.fn.window ≤ l.wanted → l.window ≡ [])
 
 abbrev pub decreases-loop-window : goal.decreases-loop-window
 decreases-loop-window g l = l.wanted - length l.image
