@@ -1,4 +1,4 @@
--- Numbers of the schedule text: digits alone, where leading zeros are accepted and a sign is no digit.
+-- Numbers of the command line: digits alone, where leading zeros are accepted and a sign is no digit.
 use Rattle.std.specs.Prelude.{◌≡◌, ◌⊎◌, ℕ, ◌+◌, ◌-◌, ◌*◌, ◌≤◌, List, length, fold, All, cond, nat_le}
 
 abbrev pub IsDigit : ℕ → Type 0

@@ -14,7 +14,7 @@ use crate::schedule::{Command, TaskLine};
 use crate::words::{number, split_word, word_count};
 use perf_sample::{HW_INDEX, Layout};
 
-/// The first words of the lines.
+// The first words of the lines, which are the same in both versions.
 pub(crate) const VERSION: &[u8] = b"ctr-schedule";
 
 pub(crate) const HARTS: &[u8] = b"harts";
