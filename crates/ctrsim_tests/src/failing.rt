@@ -104,10 +104,13 @@ fn a_read_that_fails_between_moves_leaves_the_commands_that_were_whole(
     let text = SWAPPING.text(rt.alloc())?;
     let want = bytes_of_samples(rt.alloc(), SWAPPED)?;
     assert_eq!(rt; text.len(), 653);
-    // 94 pieces of 7, and a read that looks for the end
-    for k in 0..95usize {
+    // 12 pieces of 7, the last of which begins the first image; four and one of 3 end it; five and one
+    // of 1 are the second image, behind which no byte is asked for; then 72 pieces, and a read that
+    // looks for the end.
+    for k in 0..96usize {
         let ended = reading(rt.alloc(), &["run"], &text, &[7], &[k as u64])?;
-        let taken = text.get(151..k.saturating_mul(7).min(653)).unwrap_or(b"");
+        let commands = k.saturating_sub(23).saturating_mul(7).min(502);
+        let taken = text.get(151..commands.saturating_add(151)).unwrap_or(b"");
         let performed = line_feeds(taken);
         let samples = performed.saturating_sub(48).min(2);
         let written = want.get(..samples.saturating_mul(160)).unwrap_or(b"");
@@ -124,7 +127,7 @@ fn a_read_that_fails_between_moves_leaves_the_commands_that_were_whole(
         let steps = first.wrapping_add(second);
         assert_eq!(rt; steps, performed.min(48) as u64, "read {k}");
     }
-    let ended = reading(rt.alloc(), &["run"], &text, &[7], &[95])?;
+    let ended = reading(rt.alloc(), &["run"], &text, &[7], &[96])?;
     ends(&rt, "no further read", &ended, DONE, b"", &want);
     Ok(())
 }
