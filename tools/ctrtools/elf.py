@@ -129,12 +129,12 @@ class Elf:
         if self.kind != EXECUTABLE:
             raise self.refused("not linked yet: it is an object file")
         if self.flags & COMPRESSED:
-            raise self.refused("has compressed code: compile with -march=rv64im_zicsr, libraries too")
+            raise self.refused("has compressed code: compile with -march=rv64im, libraries too")
         if self.flags & FLOAT:
-            raise self.refused("has floating-point code: compile with -march=rv64im_zicsr -mabi=lp64, libraries too")
+            raise self.refused("has floating-point code: compile with -march=rv64im -mabi=lp64, libraries too")
         beyond = [word for word in extensions(self.architecture()) if word not in KNOWN_EXTENSIONS]
         if beyond:
-            raise self.refused("is for %s, and a hart here has no %s: compile with -march=rv64im_zicsr, libraries too"
+            raise self.refused("is for %s, and a hart here has no %s: compile with -march=rv64im, libraries too"
                                % (self.architecture(), ", ".join(beyond)))
         if not self.loaded():
             raise self.refused("nothing in it is loaded")

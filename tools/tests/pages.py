@@ -133,7 +133,7 @@ int main(void)
 }
 """
 COMMON = ["-mabi=lp64", "-mcmodel=medany", "-O2", "-ffreestanding", "-nostdlib", "-static"]
-COMMANDS = {"riscv64-unknown-elf-gcc": ["-march=rv64im_zicsr", "-Wl,--no-warn-rwx-segments"],
+COMMANDS = {"riscv64-unknown-elf-gcc": ["-march=rv64im", "-Wa,-march=rv64im_zicsr", "-Wl,--no-warn-rwx-segments"],
             "clang": ["--target=riscv64", "-march=rv64im", "-fuse-ld=lld"]}
 
 
