@@ -1,5 +1,7 @@
 """What conform says and ends with: targets that print a stored block, arguments that are none, tests that break."""
 import os
+import shlex
+import subprocess
 import xml.etree.ElementTree
 
 import shared
@@ -118,3 +120,11 @@ class Outcomes(shared.Case):
             self.assertTrue(os.access(os.path.join(shared.HERE, "target", name, "run"), os.X_OK), name)
             path, said = building.build("status", os.path.join(shared.HERE, "target", name), building.compiler(), self.folder)
             self.assertTrue(path, said)
+
+    def test_the_reports_can_be_built(self):
+        for name in os.listdir(os.path.join(shared.HERE, "reports")):
+            command = shlex.split(building.COMPILERS[building.compiler()]) + [
+                "-nostdlib", "-static", "-Wl,-Ttext=0x80000000", os.path.join(shared.HERE, "reports", name),
+                "-o", os.path.join(self.folder, "report")]
+            ended = subprocess.run(command, stdout=subprocess.PIPE, stderr=subprocess.STDOUT, universal_newlines=True)
+            self.assertEqual((ended.returncode, ended.stdout), (0, ""), name)
