@@ -329,18 +329,9 @@ const INTRINH: u64 = 0x4_0000_0000;
 
 const TRETINH: u64 = 0x8_0000_0000;
 
-fn check(rt: &impl Abort, row: Row) {
-    assert_eq!(rt;
-        act(
-            transfer(row.from, row.to, row.kind),
-            legal_m(row.m),
-            legal_vs(row.vs),
-            false,
-        ),
-        row.want,
-        "{}",
-        row.what
-    );
+// What a transfer of a type between modes does under two controls.
+fn answer(from: Mode, to: Mode, kind: XferType, m: u64, vs: u64) -> Act {
+    act(transfer(from, to, kind), legal_m(m), legal_vs(vs), false)
 }
 
 fn pushes(source: u64, target: u64, kind: XferType) -> Act {
@@ -455,7 +446,12 @@ fn a_filter_counts_for_traps_in_and_returns_out_and_not_for_external_traps(rt: H
             what: "an external exception, which no filter keeps out",
         },
     ] {
-        check(&rt, row);
+        assert_eq!(rt;
+            answer(row.from, row.to, row.kind, row.m, row.vs),
+            row.want,
+            "{}",
+            row.what
+        );
     }
 }
 
@@ -553,7 +549,12 @@ fn between_v_0_and_v_1_the_filters_of_vsctrctl_count(rt: HostRuntime) {
             what: "an exception of VU into M, which mctrctl doesn't inhibit",
         },
     ] {
-        check(&rt, row);
+        assert_eq!(rt;
+            answer(row.from, row.to, row.kind, row.m, row.vs),
+            row.want,
+            "{}",
+            row.what
+        );
     }
     // Each pair of modes with another V, both of them enabled.
     for host in [Mode::M, Mode::S] {
