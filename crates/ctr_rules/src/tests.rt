@@ -575,6 +575,30 @@ fn between_v_0_and_v_1_the_filters_of_vsctrctl_count(rt: HostRuntime) {
     }
 }
 
+// RISC-V Control Transfer Records 1.0, "Transfer Type Filtering": within V=1, also where the mode
+// changes, the filter bits are those of vsctrctl.
+#[test]
+fn between_two_modes_of_a_guest_the_filters_of_vsctrctl_count(rt: HostRuntime) {
+    for (from, to, kind, bit) in [
+        (Mode::Vu, Mode::Vs, XferType::Exception, EXCINH),
+        (Mode::Vu, Mode::Vs, XferType::Interrupt, INTRINH),
+        (Mode::Vs, Mode::Vs, XferType::Exception, EXCINH),
+        (Mode::Vs, Mode::Vu, XferType::TrapReturn, TRETINH),
+        (Mode::Vs, Mode::Vs, XferType::TrapReturn, TRETINH),
+    ] {
+        assert_eq!(rt;
+            answer(from, to, kind, M | S, bit | U | S),
+            Act::Nothing,
+            "{kind:?} from {from:?} to {to:?}, inhibited by vsctrctl"
+        );
+        assert_eq!(rt;
+            answer(from, to, kind, bit | M | S, U | S),
+            pushes(SOURCE, TARGET, kind),
+            "{kind:?} from {from:?} to {to:?}, and not by mctrctl"
+        );
+    }
+}
+
 // RISC-V Control Transfer Records 1.0, "RAS Emulation Mode": with it no trap and no return from one
 // is recorded, also where one of the two modes isn't enabled; a freeze comes all the same.
 #[test]
