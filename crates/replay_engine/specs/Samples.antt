@@ -1,5 +1,5 @@
 -- The sample of a task (`perf_event.h`, PERF_RECORD_SAMPLE).
-use Rattle.std.specs.Prelude.{ℕ, ◌+◌, ◌*◌, ◌-◌, ◌%◌, ◌^◌, List, map, length, nat_eq, if◌then◌else◌}
+use Rattle.std.specs.Prelude.{ℕ, ◌+◌, ◌-◌, ◌%◌, ◌^◌, List, map, length, nat_eq, if◌then◌else◌}
 use Rattle.ctr_csrs.specs.declared.mode.Mode.{Mode}
 use Rattle.ctr_csrs.specs.declared.mode.Mode.TheVariants as modes
 use Rattle.ctr_csrs.specs.Depths.{entries_of}
@@ -15,6 +15,7 @@ use Rattle.perf_sample.specs.declared.sample.Sample.{Sample}
 use Rattle.perf_sample.specs.Flags.{transfer_branch}
 use Rattle.perf_sample.specs.Layout.{LayoutWords, has}
 use Rattle.rv_hart.specs.Processor.{CoreState}
+use Rattle.task_switch.specs.Costs.{read_cost}
 use Rattle.replay_engine.specs.declared.sampling.Subject.{Subject}
 use Rattle.replay_engine.specs.Tasks.{PresentState}
 
@@ -73,7 +74,10 @@ sample_of s p = sample_by s p.state.core p.state.unit.stack p.steps
 abbrev pub hw_index_cost : LayoutWords → ℕ
 hw_index_cost layout = if has layout place.HwIndex then 2 else 0
 
--- the accesses of a sample: those; then the depth and the select are read, each entry is selected
--- and its three parts are read, and the select is written back
+-- the accesses of a sample of so many entries: those, and those of reading the stack
+abbrev pub sampling_cost : LayoutWords → ℕ → ℕ
+sampling_cost layout entries = hw_index_cost layout + read_cost entries
+
+-- of a present state
 abbrev pub sample_cost : LayoutWords → PresentState → ℕ
-sample_cost layout p = hw_index_cost layout + (3 + 4 * entries_of p.state.unit.stack.depth)
+sample_cost layout p = sampling_cost layout (entries_of p.state.unit.stack.depth)

@@ -9,6 +9,7 @@ ghost use Rattle.perf_sample.specs.Sample.{blank};
 ghost use Rattle.perf_sample.specs.Layout.{Fits, FlagsFit};
 ghost use Rattle.perf_sample.specs.Spelling.{spelling};
 ghost use Rattle.perf_sample.specs.declared.faults.Place.TheVariants as place;
+ghost use Rattle.task_switch.specs.Costs.{read_cost};
 ghost use Rattle.replay_engine.specs.Samples.{misc_of, branch_of, kept, youngest_place};
 ghost use Rattle.replay_engine.specs.Samples.{hw_index_cost, sample_by};
 
@@ -167,7 +168,7 @@ fn fill(
     ensures hart { hart.new ≡ record hart.old {
       accesses =
           hart.old.accesses + (hw_index_cost subject.now.layout +
-          (3 + 4 * entries_of hart.old.unit.stack.depth));
+          read_cost (entries_of hart.old.unit.stack.depth));
     } }
 {
     let layout = subject.layout;
@@ -232,7 +233,7 @@ pub(crate) fn write_sample<K: Sink>(
     ensures hart { hart.new ≡ record hart.old {
       accesses =
           hart.old.accesses + (hw_index_cost subject.now.layout +
-          (3 + 4 * entries_of hart.old.unit.stack.depth));
+          read_cost (entries_of hart.old.unit.stack.depth));
     } }
     ensures later { K.faults sink.old ≤ K.faults sink.new }
     ensures cause { OnErr result (Rose (K.faults sink.old) (K.faults sink.new)) }
