@@ -24,5 +24,5 @@ mod FactLaws
 mod AfterLaws
 mod AtLaws
 mod BreakLaws
-mod VisibleLaws
 mod LineLaws
+mod ScheduledLaws

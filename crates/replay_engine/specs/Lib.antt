@@ -1,6 +1,7 @@
--- What a reader must believe: Samples, Runs, Tasks, View, Start, Stands, Refusals, Breaks and
--- Visible. Irqs, Counts, Engine, Outcome, HartsAt, StandsAfter, Placing, ByLine, Parts and Laws tie
--- functions to them, and say what follows from them.
+-- What a reader must believe: Samples, Start and Visible; of Runs is_due, spellings and IsCut; of
+-- Stands the steps, the places and the names of commands; of View `is_at`; Refusals with no_place of
+-- Outcome; Breaks; and Scheduled, but for its laws. All else ties functions to them, and says what
+-- follows from them.
 pub mod Irqs
 pub mod Tasks
 pub mod Samples
@@ -19,4 +20,5 @@ pub mod Placing
 pub mod Breaks
 pub mod Visible
 pub mod ByLine
+pub mod Scheduled
 pub mod Laws
