@@ -13,6 +13,7 @@ use Rattle.replay_engine.specs.Samples.{sample_of}
 use Rattle.replay_engine.specs.Stands.{scheduled_samples, scheduled_of, lone_run_samples, lone_sample}
 use Rattle.replay_engine.specs.Stands.{lone_samples, own_steps, place_after}
 use Rattle.replay_engine.specs.StandsAfter.{StandsForPart, StandsForSample, StandsCutOff}
+use Rattle.replay_engine.specs.Scheduled.{SamplesAreLone, HartsAreLone}
 use Rattle.replay_engine.specs.Start.{plan_of}
 use Rattle.replay_engine.specs.Tasks.{TaskState, PresentState}
 use Rattle.replay_engine.specs.View.{Plan, subject_of}
@@ -22,7 +23,9 @@ use Rattle.sched_text.specs.declared.schedule.Command.{Command}
 use Rattle.sched_text.specs.declared.schedule.Command.TheVariants.{Run, Sample as Sampled, Evict}
 use Rattle.sched_text.specs.declared.schedule.Command.TheVariants.{End}
 use Rattle.ctrsim_cli.specs.RunEnds.{IsCutOff}
-use Rattle.ctrsim_cli.specs.Schedule.{Schedule, first_states, output_of}
+use Rattle.ctrsim_cli.specs.Parts.{first_states}
+use Rattle.ctrsim_cli.specs.Schedule.{Schedule, IsSchedule, followed_by}
+use Rattle.ctrsim_cli.proofs.SteppedSchedules.{stepped, same_samples, same_output, harts_are_of}
 use Rattle.ctrsim_cli.proofs.PerformLaws.{samples_more, bytes_more}
 
 -- of no bytes nothing can be cut off
@@ -55,10 +58,10 @@ one_sample (Some p) (Some o) None plan t m k layout less = absurd (omega (arith,
 lone_bytes : (layout : LayoutWords) (x : Sample) → spellings layout (x ∷ []) ≡ spelling layout x
 lone_bytes layout x = append-nil (spelling layout x)
 
-run_cut_off : {K : Type 0} (gained : K → List ℕ → K → Type 0) → ((a b c : K) (x y : List ℕ) → gained a x b → gained b y c → gained a (x ++ y) c) → SamplesJoin → StandingHartsAreAt
+run_cut_off : {K : Type 0} (gained : K → List ℕ → K → Type 0) → ((a b c : K) (x y : List ℕ) → gained a x b → gained b y c → gained a (x ++ y) c) → SamplesJoin → SamplesAreLone → HartsAreLone → StandingHartsAreAt
     → (old mid new : K) (s : Schedule) (ts : List TaskState) (hs : List HartState) (h t n : ℕ)
-    → gained old (output_of s) mid → StandsForPart gained mid new (plan_of s.header) (first_states s) s.commands ts hs h t n → IsCutOff gained old new hs s (Run h t n)
-run_cut_off gained joins samples at old mid new s ts hs h t n written p =
+    → IsSchedule s → gained old (spellings (plan_of s.header).layout (stepped s)) mid → StandsForPart gained mid new (plan_of s.header) (first_states s) s.commands ts hs h t n → IsCutOff gained old new hs s (Run h t n)
+run_cut_off gained joins samples lone harts at old mid new s ts hs h t n is written p =
     let plan = plan_of s.header in
     let first = first_states s in
     let cs = s.commands in
@@ -67,27 +70,32 @@ run_cut_off gained joins samples at old mid new s ts hs h t n written p =
     let one = one_next (slice_get first t) (slice_get plan.tasks t) plan h t (own_steps cs t) p.before p.next layout p.last p.are p.cut in
     let all = scheduled_samples plan first cs in
     let some = scheduled_of plan first cs shorter in
+    let made = followed_by s (Run h t (suc p.before) ∷ []) in
+    let before = followed_by s (shorter ∷ []) in
     record {
+      is = is;
       made = Run h t (suc p.before);
       before = shorter ∷ [];
       parts = (p.before, p.within, refl, refl);
       failed = one.0;
-      is_last = samples_more samples plan first cs (Run h t (suc p.before))
+      is_last = sym (same_samples lone made)
+          ∙ samples_more samples plan first cs (Run h t (suc p.before))
           ∙ ap (λ (xs : List Sample). all ++ xs) (p.are ∙ ap (λ (xs : List Sample). some ++ xs) one.1)
           ∙ sym (append_assoc all some (one.0 ∷ []))
-          ∙ ap (λ (xs : List Sample). xs ++ one.0 ∷ []) (sym (samples_more samples plan first cs shorter));
+          ∙ ap (λ (xs : List Sample). xs ++ one.0 ∷ []) (sym (samples_more samples plan first cs shorter) ∙ same_samples lone before);
       last = p.last;
       cut = subst (IsCut p.last) (ap (spellings layout) one.1 ∙ lone_bytes layout one.0) p.cut;
       written = subst (λ (bytes : List ℕ). gained old bytes new)
-          (sym (append_assoc (spellings layout all) (spellings layout some) p.last) ∙ ap (λ (bytes : List ℕ). bytes ++ p.last) (sym (bytes_more samples plan first cs shorter)))
+          (sym (append_assoc (spellings layout all) (spellings layout some) p.last)
+          ∙ ap (λ (bytes : List ℕ). bytes ++ p.last) (sym (bytes_more samples plan first cs shorter) ∙ same_output lone before))
           (joins old mid new (spellings layout all) (spellings layout some ++ p.last) written p.written);
-      harts_are = at plan first (cs ++ Run h t (suc p.before) ∷ []) ts hs p.stands;
+      harts_are = harts_are_of harts at made ts hs p.stands;
     }
 
-sample_cut_off : {K : Type 0} (gained : K → List ℕ → K → Type 0) → ((a b c : K) (x y : List ℕ) → gained a x b → gained b y c → gained a (x ++ y) c) → SamplesJoin → StandingHartsAreAt
+sample_cut_off : {K : Type 0} (gained : K → List ℕ → K → Type 0) → ((a b c : K) (x y : List ℕ) → gained a x b → gained b y c → gained a (x ++ y) c) → SamplesJoin → SamplesAreLone → HartsAreLone → StandingHartsAreAt
     → (old mid new : K) (s : Schedule) (ts : List TaskState) (hs : List HartState) (t : ℕ)
-    → gained old (output_of s) mid → StandsForSample gained mid new (plan_of s.header) (first_states s) s.commands ts hs (Sampled t) → IsCutOff gained old new hs s (Sampled t)
-sample_cut_off gained joins samples at old mid new s ts hs t written p =
+    → IsSchedule s → gained old (spellings (plan_of s.header).layout (stepped s)) mid → StandsForSample gained mid new (plan_of s.header) (first_states s) s.commands ts hs (Sampled t) → IsCutOff gained old new hs s (Sampled t)
+sample_cut_off gained joins samples lone harts at old mid new s ts hs t is written p =
     let plan = plan_of s.header in
     let first = first_states s in
     let cs = s.commands in
@@ -97,25 +105,30 @@ sample_cut_off gained joins samples at old mid new s ts hs t written p =
     let bytes : spellings layout (scheduled_of plan first cs (Sampled t)) ≡ spelling layout one.0 = ap (spellings layout) one.1 ∙ lone_bytes layout one.0 in
     let same : cs ++ [] ≡ cs = append-nil cs in
     let last = take k (spellings layout (scheduled_of plan first cs (Sampled t))) in
+    let made = followed_by s (Sampled t ∷ []) in
     record {
+      is = is;
       made = Sampled t;
       before = [];
       parts = (refl, refl);
       failed = one.0;
-      is_last = samples_more samples plan first cs (Sampled t)
+      is_last = sym (same_samples lone made)
+          ∙ samples_more samples plan first cs (Sampled t)
           ∙ ap (λ (xs : List Sample). scheduled_samples plan first cs ++ xs) one.1
-          ∙ ap (λ (ds : List Command). scheduled_samples plan first ds ++ one.0 ∷ []) (sym same);
+          ∙ ap (λ (ds : List Command). scheduled_samples plan first ds ++ one.0 ∷ []) (sym same)
+          ∙ ap (λ (xs : List Sample). xs ++ one.0 ∷ []) (same_samples lone (followed_by s []));
       last = last;
       cut = (k, subst (λ (xs : List ℕ). k < length xs) bytes p.written.1, ap (take k) bytes);
-      written = subst (λ (ds : List Command). gained old (spellings layout (scheduled_samples plan first ds) ++ last) new) (sym same)
+      written = subst (λ (bytes : List ℕ). gained old (bytes ++ last) new)
+          (ap (λ (ds : List Command). spellings layout (scheduled_samples plan first ds)) (sym same) ∙ same_output lone (followed_by s []))
           (joins old mid new (spellings layout (scheduled_samples plan first cs)) last written p.written.2);
-      harts_are = at plan first (cs ++ Sampled t ∷ []) ts hs p.stands;
+      harts_are = harts_are_of harts at made ts hs p.stands;
     }
 
-pub cut_off : {K : Type 0} (gained : K → List ℕ → K → Type 0) → ((a b c : K) (x y : List ℕ) → gained a x b → gained b y c → gained a (x ++ y) c) → SamplesJoin → StandingHartsAreAt
+pub cut_off : {K : Type 0} (gained : K → List ℕ → K → Type 0) → ((a b c : K) (x y : List ℕ) → gained a x b → gained b y c → gained a (x ++ y) c) → SamplesJoin → SamplesAreLone → HartsAreLone → StandingHartsAreAt
     → (old mid new : K) (s : Schedule) (ts : List TaskState) (hs : List HartState) (c : Command)
-    → gained old (output_of s) mid → StandsCutOff gained mid new (plan_of s.header) (first_states s) s.commands ts hs c → IsCutOff gained old new hs s c
-cut_off gained joins samples at old mid new s ts hs (Run h t n) written p = run_cut_off gained joins samples at old mid new s ts hs h t n written p
-cut_off gained joins samples at old mid new s ts hs (Sampled t) written p = sample_cut_off gained joins samples at old mid new s ts hs t written p
-cut_off gained joins samples at old mid new s ts hs (Evict h) written p = absurd p
-cut_off gained joins samples at old mid new s ts hs End written p = absurd p
+    → IsSchedule s → gained old (spellings (plan_of s.header).layout (stepped s)) mid → StandsCutOff gained mid new (plan_of s.header) (first_states s) s.commands ts hs c → IsCutOff gained old new hs s c
+cut_off gained joins samples lone harts at old mid new s ts hs (Run h t n) is written p = run_cut_off gained joins samples lone harts at old mid new s ts hs h t n is written p
+cut_off gained joins samples lone harts at old mid new s ts hs (Sampled t) is written p = sample_cut_off gained joins samples lone harts at old mid new s ts hs t is written p
+cut_off gained joins samples lone harts at old mid new s ts hs (Evict h) is written p = absurd p
+cut_off gained joins samples lone harts at old mid new s ts hs End is written p = absurd p

@@ -1,10 +1,10 @@
 -- The schedule of `demo`: its tasks, and its turns, each of which may be performed.
-use Rattle.std.proofs.Common.{◌≡◌, refl, sym, ap, ◌∙◌, subst, arith, ℕ, zero, suc, ◌+◌, ◌*◌, ◌/◌, ◌%◌, ◌^◌, ◌≤◌}
+use Rattle.std.proofs.Common.{◌≡◌, refl, sym, ap, ◌∙◌, subst, arith, ℕ, zero, suc, ◌+◌, ◌*◌, ◌/◌, ◌%◌, ◌^◌, ◌≤◌, ◌<◌}
 use Rattle.std.proofs.Common.{List, [], ◌∷◌, ◌++◌, length, replicate, add-one, append_assoc, true, false, nat_lt, nat_eq}
 use Rattle.std.specs.Prelude.{Some, None, Err}
 use Rattle.std.proofs.Common.{length-append, All, map}
 use Rattle.std.proofs.lemmas.List.{length-replicate}
-use Rattle.std.proofs.lemmas.List.Elements.{All-push, All-nil}
+use Rattle.std.proofs.lemmas.List.Elements.{All-push, All-nil, All-cons}
 use Rattle.std.proofs.lemmas.Grind.{fold-append}
 use Rattle.std.proofs.lemmas.Option.{none-some}
 use Rattle.ctr_port.specs.Counts.{HasCause}
@@ -19,6 +19,7 @@ use Rattle.replay_engine.specs.View.{Plan}
 use Rattle.replay_engine.specs.declared.fault.PerformFault.{PerformFault}
 use Rattle.replay_engine.specs.declared.fault.PerformFault.TheVariants.{NoTask, NoHart, NotResident, EmptyHart, Write}
 use Rattle.rv_hart.specs.Hart.{HartState}
+use Rattle.rv_hart.specs.Facts.{AreBytes}
 use Rattle.rv_hart.specs.Memory.{memory_of}
 use Rattle.sched_text.specs.Header.{IsHeader}
 use Rattle.sched_text.specs.Irqs.{IsIrq, follow_on}
@@ -154,6 +155,29 @@ pub room : CountsLoosen → (cs : List Command) (n : ℕ) (e : EngineState) (hs 
 room loosen cs n e hs k few m =
     loosen (2 ^ 40 * n) (2 ^ 61) (1000000000 * n) (2 ^ 61) (1000000000 * n) (2 ^ 61) (view_of e.tasks hs) (omega (arith, few)) (omega (arith, few)) (omega (arith, few)) m.counts
 
+pub image_bytes : AreBytes demo_image
+image_bytes =
+    one 239 (0 ∷ 128 ∷ 0 ∷ 19 ∷ 0 ∷ 0 ∷ 0 ∷ 103 ∷ 128 ∷ 0 ∷ 0 ∷ []) (omega arith) (
+    one 0 (128 ∷ 0 ∷ 19 ∷ 0 ∷ 0 ∷ 0 ∷ 103 ∷ 128 ∷ 0 ∷ 0 ∷ []) (omega arith) (
+    one 128 (0 ∷ 19 ∷ 0 ∷ 0 ∷ 0 ∷ 103 ∷ 128 ∷ 0 ∷ 0 ∷ []) (omega arith) (
+    one 0 (19 ∷ 0 ∷ 0 ∷ 0 ∷ 103 ∷ 128 ∷ 0 ∷ 0 ∷ []) (omega arith) (
+    one 19 (0 ∷ 0 ∷ 0 ∷ 103 ∷ 128 ∷ 0 ∷ 0 ∷ []) (omega arith) (
+    one 0 (0 ∷ 0 ∷ 103 ∷ 128 ∷ 0 ∷ 0 ∷ []) (omega arith) (
+    one 0 (0 ∷ 103 ∷ 128 ∷ 0 ∷ 0 ∷ []) (omega arith) (
+    one 0 (103 ∷ 128 ∷ 0 ∷ 0 ∷ []) (omega arith) (
+    one 103 (128 ∷ 0 ∷ 0 ∷ []) (omega arith) (
+    one 128 (0 ∷ 0 ∷ []) (omega arith) (
+    one 0 (0 ∷ []) (omega arith) (
+    one 0 ([]) (omega arith) (
+    All-nil (λ (n : ℕ). n < 256)))))))))))))
+  where
+    one : (b : ℕ) (bs : List ℕ) → b < 256 → AreBytes bs → AreBytes (b ∷ bs)
+    one b bs small are = All-cons (λ (n : ℕ). n < 256) b bs small are
+
+demo_bytes : (n : ℕ) → All AreBytes (replicate n demo_image)
+demo_bytes zero = All-nil AreBytes
+demo_bytes (suc n) = All-cons AreBytes demo_image (replicate n demo_image) image_bytes (demo_bytes n)
+
 -- an engine that was started on the schedule of `demo`
 pub ready : (h : Header) (mems : List (List ℕ)) (e : EngineState) → h ≡ demo_header → mems ≡ memories (demo_lines 8) (replicate 8 demo_image)
     → e ≡ fresh_engine h mems → StandsFor e.plan (present_states e.tasks fresh_harts) [] e.tasks fresh_harts → PlacesAgree e.tasks fresh_harts → CountsWithin 0 0 0 (view_of e.tasks fresh_harts)
@@ -162,7 +186,7 @@ ready h mems e header are made stands places counts lone =
     let plan_is : e.plan ≡ plan = ap (λ (x : EngineState). x.plan) made ∙ ap plan_of header in
     record {
       none = refl;
-      size = refl;
+      is = record { header = demo_is_header; size = refl; bytes = demo_bytes 8; allowed = tt };
       plan = plan_is;
       first = lone (replicate 8 demo_image) (are ∙ ap (λ (x : Header). memories x.tasks (replicate 8 demo_image)) (sym header))
           ∙ ap (λ (x : Header). map first_present (tasks_of_lines 0 x.tasks (replicate 8 demo_image) x.irqs)) header;

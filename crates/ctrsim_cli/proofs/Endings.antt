@@ -239,10 +239,12 @@ taken_to line n h images cs c hand b b' m k size begins given allowed fits next 
   lines = line;
   count = suc n;
   behind = hand ++ b';
+  ahead = hand;
+  left = refl;
   begins = has_more line n h images cs c b m k (hand ++ b') begins given.0 next allowed fits;
   header = refl;
   images = are_images line h images b m begins size;
-  near = omega (arith, length-append hand b', near);
+  near = near;
 }
 
 -- header and images, one call after another

@@ -14,6 +14,7 @@ mod CountLaws
 mod DemoLaws
 mod TopLaws
 mod SummaryLaws
+mod SteppedSchedules
 mod ScheduleLaws
 mod DemoRows
 mod DemoText

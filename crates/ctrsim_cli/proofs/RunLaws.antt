@@ -5,6 +5,7 @@ use Rattle.ctr_port.specs.InHand.{Of, text_of}
 use Rattle.ctr_port.proofs.InHand.{of_then}
 use Rattle.replay_engine.specs.HartsAt.{StandingHartsAreAt}
 use Rattle.replay_engine.specs.Laws.{SamplesJoin}
+use Rattle.replay_engine.specs.Scheduled.{SamplesAreLone, HartsAreLone}
 use Rattle.replay_engine.specs.Start.{plan_of}
 use Rattle.replay_engine.specs.Tasks.{TaskState}
 use Rattle.replay_engine.specs.Breaks.{AreAllowed}
@@ -25,10 +26,11 @@ use Rattle.sched_text.specs.declared.schedule.Header.{Header}
 use Rattle.ctrsim_cli.specs.declared.fault.Fault.{Fault}
 use Rattle.ctrsim_cli.specs.declared.fault.Fault.TheVariants.{Usage, ReadFault, WriteFault, Line}
 use Rattle.ctrsim_cli.specs.declared.fault.Fault.TheVariants.{Memory, Sample as SampleAt}
-use Rattle.ctrsim_cli.specs.Parts.{Begins, Performed, PerformAnswer, NextRefused, OpenAnswer, ImagesRefused, opening_fault}
+use Rattle.ctrsim_cli.specs.Parts.{first_states, Begins, Performed, PerformAnswer, NextRefused, OpenAnswer, ImagesRefused, opening_fault}
 use Rattle.ctrsim_cli.specs.RunEnds.{IsDone, Nothing, RunEnds}
 use Rattle.ctrsim_cli.specs.Says.{IsAcceptedAs, IsRefusedAfter, IsRefusedBefore, IsTakenTo, IsCutBefore, IsCutAfter, Took}
-use Rattle.ctrsim_cli.specs.Schedule.{first_states}
+use Rattle.ctrsim_cli.specs.Schedule.{IsSchedule}
+use Rattle.ctrsim_cli.proofs.SteppedSchedules.{same_output, harts_are_of}
 use Rattle.ctrsim_cli.proofs.CutLaws.{cut_off}
 use Rattle.ctrsim_cli.proofs.Endings.{bare, schedule, header_cut_off, images_short, images_cut_off, accepted_as, refused_by_text, refused_by_place}
 use Rattle.ctrsim_cli.proofs.Endings.{command_cut_off, end_cut_off, taken_to}
@@ -75,10 +77,13 @@ behind : (lines count : ℕ) (h : Header) (images : List (List ℕ)) (cs : List 
 behind lines count h images cs a b c begins given = of_then a b c (Begins lines h images) (FirstCommands lines count cs) (Behind lines count h images cs) begins given (λ x y z p q. (y, p, q))
 
 -- what was performed, as done
-done : {K : Type 0} (gained : K → List ℕ → K → Type 0) (old new : K) (h : Header) (images : List (List ℕ)) (ts : List TaskState) (hs : List HartState) (lines count : ℕ) (a b : Option (List ℕ)) → StandingHartsAreAt
-    → (p : Performed gained old new (plan_of h) (first_states (schedule h images [])) ts hs lines count a b) → IsDone gained old new hs (schedule h images p.commands)
-done gained old new h images ts hs lines count a b at p =
-    record { written = p.written; harts_are = at (plan_of h) (first_states (schedule h images [])) p.commands ts hs p.stands }
+done : {K : Type 0} (gained : K → List ℕ → K → Type 0) (old new : K) (h : Header) (images : List (List ℕ)) (ts : List TaskState) (hs : List HartState) (lines count : ℕ) (a b : Option (List ℕ)) → SamplesAreLone → HartsAreLone → StandingHartsAreAt
+    → IsSchedule (schedule h images []) → (p : Performed gained old new (plan_of h) (first_states (schedule h images [])) ts hs lines count a b) → IsDone gained old new hs (schedule h images p.commands)
+done gained old new h images ts hs lines count a b lone harts at is p = record {
+  is = record { header = is.header; size = is.size; bytes = is.bytes; allowed = p.allowed };
+  written = subst (λ (bytes : List ℕ). gained old bytes new) (same_output lone (schedule h images p.commands)) p.written;
+  harts_are = harts_are_of harts at (schedule h images p.commands) ts hs p.stands;
+}
 
 refused_next : (lines count : ℕ) (h : Header) (images : List (List ℕ)) (cs : List Command) (f : LineFault) (hand : List ℕ) (left middle left' : Option (List ℕ)) → length images ≡ length h.tasks → AreAllowed (plan_of h) cs
     → Of (text_of [] left) middle (Behind lines count h images cs) → NextRefused (plan_of h) (lines + (count + 1)) count cs middle (text_of hand left') f → Of left left' (λ b b'. IsRefusedAfter b (schedule h images cs) f)
@@ -109,53 +114,53 @@ empty_back : (xs ys : List ℕ) → xs ++ ys ≡ [] → ys ≡ []
 empty_back [] ys e = e
 empty_back (x ∷ xs) ys e = absurd cc
 
-pub run_ends : {K : Type 0} (gained : K → List ℕ → K → Type 0) → ((a b c : K) (x y : List ℕ) → gained a x b → gained b y c → gained a (x ++ y) c) → SamplesJoin → StandingHartsAreAt
+pub run_ends : {K : Type 0} (gained : K → List ℕ → K → Type 0) → ((a b c : K) (x y : List ℕ) → gained a x b → gained b y c → gained a (x ++ y) c) → SamplesJoin → SamplesAreLone → HartsAreLone → StandingHartsAreAt
     → (old new : K) (h : Header) (images : List (List ℕ)) (ts : List TaskState) (hs : List HartState) (lines : ℕ) (hand : List ℕ) (left mid left' : Option (List ℕ)) (f : Option Fault)
-    → length images ≡ length h.tasks → Of (text_of [] left) mid (Begins lines h images)
+    → IsSchedule (schedule h images []) → Of (text_of [] left) mid (Begins lines h images)
     → PerformAnswer gained old new (plan_of h) (first_states (schedule h images [])) ts hs lines mid (text_of hand left') hand f → RunEnds left left' gained old new hs f
-run_ends gained joins samples at old new h images ts hs lines hand left mid left' None size begins p =
+run_ends gained joins samples lone harts at old new h images ts hs lines hand left mid left' None is begins p =
     let cs = p.before.commands in
     let s = schedule h images cs in
     let has = behind lines p.count h images cs (text_of [] left) mid p.middle begins p.before.given in
     record {
       schedule = s;
-      done = done gained old new h images ts hs lines p.count mid p.middle at p.before;
+      done = done gained old new h images ts hs lines p.count mid p.middle lone harts at is p.before;
       text = bare hand left left' (λ t t'. (t' ≡ []) × IsAcceptedAs t s) (λ b b'. (b' ≡ []) × IsAcceptedAs b s)
           (of_then (text_of [] left) p.middle (text_of hand left') (Behind lines p.count h images cs) (λ t t'. command_at (lines + (p.count + 1)) p.count t ≡ Ok (command.End, t')) (λ t t'. (t' ≡ []) × IsAcceptedAs t s) has p.end
-          (λ x y z q e. accepted_as lines p.count h images cs x q.0 y z size q.1 q.2 p.before.allowed e))
+          (λ x y z q e. accepted_as lines p.count h images cs x q.0 y z is.size q.1 q.2 p.before.allowed e))
           (λ b b' q. (empty_back hand b' q.0, q.1));
     }
-run_ends gained joins samples at old new h images ts hs lines hand left mid left' (Some (Line f)) size begins p =
+run_ends gained joins samples lone harts at old new h images ts hs lines hand left mid left' (Some (Line f)) is begins p =
     let cs = p.before.commands in
     inr (record {
       schedule = schedule h images cs;
-      done = done gained old new h images ts hs lines p.count mid p.middle at p.before;
-      text = refused_next lines p.count h images cs f hand left p.middle left' size p.before.allowed (behind lines p.count h images cs (text_of [] left) mid p.middle begins p.before.given) p.end;
+      done = done gained old new h images ts hs lines p.count mid p.middle lone harts at is p.before;
+      text = refused_next lines p.count h images cs f hand left p.middle left' is.size p.before.allowed (behind lines p.count h images cs (text_of [] left) mid p.middle begins p.before.given) p.end;
     })
-run_ends gained joins samples at old new h images ts hs lines hand left mid left' (Some ReadFault) size begins p =
+run_ends gained joins samples lone harts at old new h images ts hs lines hand left mid left' (Some ReadFault) is begins p =
     let cs = p.before.commands in
     inr (record {
       schedule = schedule h images cs;
-      done = done gained old new h images ts hs lines p.count mid p.middle at p.before;
+      done = done gained old new h images ts hs lines p.count mid p.middle lone harts at is p.before;
       text = bare hand left left' (Unread lines p.count h images cs hand) (Took (λ t. IsCutAfter t (schedule h images cs)))
           (of_then (text_of [] left) p.middle (text_of hand left') (Behind lines p.count h images cs) (λ t t'. (t' ≡ t) ⊎ ((hand ≡ []) × EndsAt (line_at t) t')) (Unread lines p.count h images cs hand)
           (behind lines p.count h images cs (text_of [] left) mid p.middle begins p.before.given) p.end.1 (λ x y z q e. (y, q, e)))
-          (λ b b' q. unread lines p.count h images cs hand b b' size p.before.allowed p.end.0 q);
+          (λ b b' q. unread lines p.count h images cs hand b b' is.size p.before.allowed p.end.0 q);
     })
-run_ends gained joins samples at old new h images ts hs lines hand left mid left' (Some WriteFault) size begins p =
+run_ends gained joins samples lone harts at old new h images ts hs lines hand left mid left' (Some WriteFault) is begins p =
     let cs = p.before.commands in
     let s = schedule h images cs in
     let c = p.command in
     record {
       schedule = s;
       command = c;
-      cut_off = cut_off gained joins samples at old p.sink new s p.tasks hs c p.before.written p.cut_off;
+      cut_off = cut_off gained joins samples lone harts at old p.sink new s p.tasks hs c (record { header = is.header; size = is.size; bytes = is.bytes; allowed = p.before.allowed }) p.before.written p.cut_off;
       text = bare hand left left' (λ t t'. (k : List ℕ) × Behind lines p.count h images cs t k × (command_at (lines + (p.count + 1)) p.count k ≡ Ok (c, t'))) (λ b b'. IsTakenTo b b' s c)
           (of_then (text_of [] left) p.middle (text_of hand left') (Behind lines p.count h images cs) (λ t t'. command_at (lines + (p.count + 1)) p.count t ≡ Ok (c, t'))
           (λ t t'. (k : List ℕ) × Behind lines p.count h images cs t k × (command_at (lines + (p.count + 1)) p.count k ≡ Ok (c, t')))
           (behind lines p.count h images cs (text_of [] left) mid p.middle begins p.before.given) p.next (λ x y z q e. (y, q, e)))
-          (λ b b' q. taken_to lines p.count h images cs c hand b b' q.1.0 q.0 size q.1.1 q.1.2 p.before.allowed p.allowed q.2 p.near);
+          (λ b b' q. taken_to lines p.count h images cs c hand b b' q.1.0 q.0 is.size q.1.1 q.1.2 p.before.allowed p.allowed q.2 p.near);
     }
-run_ends gained joins samples at old new h images ts hs lines hand left mid left' (Some Usage) size begins p = absurd p
-run_ends gained joins samples at old new h images ts hs lines hand left mid left' (Some Memory) size begins p = absurd p
-run_ends gained joins samples at old new h images ts hs lines hand left mid left' (Some (SampleAt at' f)) size begins p = absurd p
+run_ends gained joins samples lone harts at old new h images ts hs lines hand left mid left' (Some Usage) is begins p = absurd p
+run_ends gained joins samples lone harts at old new h images ts hs lines hand left mid left' (Some Memory) is begins p = absurd p
+run_ends gained joins samples lone harts at old new h images ts hs lines hand left mid left' (Some (SampleAt at' f)) is begins p = absurd p

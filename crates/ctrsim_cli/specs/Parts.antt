@@ -1,6 +1,7 @@
 -- What the parts of `run` leave. These tie private functions together.
 use Rattle.std.specs.Prelude.{◌≡◌, ◌⊎◌, ℕ, ◌+◌, ◌*◌, ◌^◌, ◌<◌, ◌≤◌, false, List, [], length, take, slice_get}
 use Rattle.std.specs.Prelude.{Option, Some, None, Result, Ok, Err}
+use Rattle.std.specs.List.{All}
 use Rattle.ctr_port.specs.InHand.{Of}
 use Rattle.replay_engine.specs.Breaks.{AreAllowed, reason_of}
 use Rattle.replay_engine.specs.Counts.{CountsWithin}
@@ -14,6 +15,8 @@ use Rattle.replay_engine.specs.Tasks.{TaskState, PresentState, PlacesAgree, pres
 use Rattle.replay_engine.specs.View.{Plan, view_of}
 use Rattle.replay_engine.specs.declared.fault.PerformFault.{PerformFault}
 use Rattle.replay_engine.specs.declared.fault.PerformFault.TheVariants as perform_fault
+use Rattle.replay_engine.specs.Scheduled.{first_of}
+use Rattle.rv_hart.specs.Facts.{AreBytes}
 use Rattle.rv_hart.specs.Hart.{HartState, fresh_harts}
 use Rattle.sched_text.specs.Commands.{command_at}
 use Rattle.sched_text.specs.Header.{HasHeader, HeaderAnswer}
@@ -32,11 +35,15 @@ use Rattle.sched_text.specs.declared.schedule.Header.{Header}
 use Rattle.sched_text.specs.declared.schedule.TaskLine.{TaskLine}
 use Rattle.ctrsim_cli.specs.Counted.{none_counted, counted}
 use Rattle.ctrsim_cli.specs.Demo.{demo_header, demo_schedule}
-use Rattle.ctrsim_cli.specs.Schedule.{Schedule, first_states}
+use Rattle.ctrsim_cli.specs.Schedule.{Schedule, IsSchedule}
 use Rattle.ctrsim_cli.specs.declared.counting.Counter.{Counter}
 use Rattle.ctrsim_cli.specs.declared.fault.Fault.{Fault}
 use Rattle.ctrsim_cli.specs.declared.fault.Fault.TheVariants.{Usage, ReadFault, WriteFault, Line}
 use Rattle.ctrsim_cli.specs.declared.fault.Fault.TheVariants.{Memory, Sample as SampleAt}
+
+-- the states that the lone runs of the tasks of a schedule begin with
+abbrev pub first_states : Schedule → List PresentState
+first_states s = first_of s.header s.images
 
 -- the images of the first so many of these tasks, one behind the other, and what follows them
 pub record HasImages (tasks : List TaskLine) (images : List (List ℕ)) (n : ℕ) (t t' : List ℕ)
@@ -48,6 +55,7 @@ pub record HasImages (tasks : List TaskLine) (images : List (List ℕ)) (n : ℕ
 pub record FirstMemories (tasks : List TaskLine) (n : ℕ) (mems : List (List ℕ))
     (text text' : Option (List ℕ)) : Type 0 where
   pub images : List (List ℕ)
+  pub bytes : All AreBytes images
   pub size : length images ≡ n
   pub are : mems ≡ memories (take n tasks) images
   pub sizes : AreMemories (take n tasks) mems
@@ -57,6 +65,7 @@ pub record FirstMemories (tasks : List TaskLine) (n : ℕ) (mems : List (List �
 pub record MemoriesRead (tasks : List TaskLine) (mems : List (List ℕ)) (text text' : Option (List ℕ))
     : Type 0 where
   pub images : List (List ℕ)
+  pub bytes : All AreBytes images
   pub size : length images ≡ length tasks
   pub are : mems ≡ memories tasks images
   pub sizes : AreMemories tasks mems
@@ -77,7 +86,7 @@ pub record Begins (lines : ℕ) (h : Header) (images : List (List ℕ)) (t t' : 
 -- the engine of the schedule, on fresh harts, before the first command
 pub record IsReady (s : Schedule) (e : EngineState) : Type 0 where
   pub none : s.commands ≡ []
-  pub size : length s.images ≡ length s.header.tasks
+  pub is : IsSchedule s
   pub plan : e.plan ≡ plan_of s.header
   pub first : present_states e.tasks fresh_harts ≡ first_states s
   pub few : e.plan.harts ≤ 16

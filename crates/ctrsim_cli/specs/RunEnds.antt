@@ -4,6 +4,7 @@ use Rattle.ctr_port.specs.InHand.{Of}
 use Rattle.perf_sample.specs.Spelling.{spelling}
 use Rattle.perf_sample.specs.declared.sample.Sample.{Sample}
 use Rattle.replay_engine.specs.Runs.{IsCut}
+use Rattle.replay_engine.specs.Start.{sample_layout}
 use Rattle.rv_hart.specs.Hart.{HartState, fresh_harts}
 use Rattle.sched_text.specs.declared.faults.LineFault.{LineFault}
 use Rattle.sched_text.specs.declared.schedule.Command.{Command}
@@ -14,13 +15,14 @@ use Rattle.ctrsim_cli.specs.declared.fault.Fault.TheVariants.{Usage, ReadFault, 
 use Rattle.ctrsim_cli.specs.declared.fault.Fault.TheVariants.{Memory, Sample as SampleAt}
 use Rattle.ctrsim_cli.specs.Says.{IsAcceptedAs, IsRefusedAfter, IsRefusedBefore, IsTakenTo}
 use Rattle.ctrsim_cli.specs.Says.{IsCutBefore, IsCutAfter, Took}
-use Rattle.ctrsim_cli.specs.Schedule.{Schedule, samples_of, layout_of, output_of, HartsAreOf}
+use Rattle.ctrsim_cli.specs.Schedule.{Schedule, IsSchedule, samples_of, output_of, HartsAreOf}
 use Rattle.ctrsim_cli.specs.Schedule.{followed_by}
 
 -- the sink gained the bytes of all samples of the schedule, and nothing else; and the harts are
 -- what its commands make of them
 pub record IsDone {K : Type 0} (gained : K → List ℕ → K → Type 0) (old new : K)
     (harts : List HartState) (s : Schedule) : Type 0 where
+  pub is : IsSchedule s
   pub written : gained old (output_of s) new
   pub harts_are : HartsAreOf s harts
 
@@ -79,6 +81,7 @@ AreMade End made before = ⊥
 -- step
 pub record IsCutOff {K : Type 0} (gained : K → List ℕ → K → Type 0) (old new : K)
     (harts : List HartState) (s : Schedule) (c : Command) : Type 0 where
+  pub is : IsSchedule s
   pub made : Command
   pub before : List Command
   pub parts : AreMade c made before
@@ -86,7 +89,7 @@ pub record IsCutOff {K : Type 0} (gained : K → List ℕ → K → Type 0) (old
   pub is_last : samples_of (followed_by s (made ∷ []))
       ≡ samples_of (followed_by s before) ++ failed ∷ []
   pub last : List ℕ
-  pub cut : IsCut last (spelling (layout_of s) failed)
+  pub cut : IsCut last (spelling (sample_layout s.header) failed)
   pub written : gained old (output_of (followed_by s before) ++ last) new
   pub harts_are : HartsAreOf (followed_by s (made ∷ [])) harts
 

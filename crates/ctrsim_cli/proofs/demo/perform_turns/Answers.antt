@@ -4,8 +4,11 @@ use Rattle.replay_engine.specs.Refusals.{refusal_after}
 use Rattle.replay_engine.specs.Stands.{StandsFor}
 use Rattle.replay_engine.specs.View.{Plan}
 use Rattle.sched_text.specs.declared.schedule.Command.{Command}
-use Rattle.ctrsim_cli.specs.Demo.{turns, run_of_turn, sample_of_turn}
+use Rattle.ctrsim_cli.specs.Demo.{demo_schedule, turns, run_of_turn, sample_of_turn}
+use Rattle.replay_engine.specs.Runs.{spellings}
+use Rattle.ctrsim_cli.specs.Counted.{none_counted, counted}
 use Rattle.ctrsim_cli.specs.Parts.{Made}
+use Rattle.ctrsim_cli.proofs.SteppedSchedules.{stepped, same_output, harts_are_of}
 use Rattle.ctrsim_cli.proofs.DemoLaws.{plan, first, made_none, made_more, room, run_allowed, sample_allowed, never, turns_more}
 use Rattle.ctrsim_cli.proofs.demo.perform_turns.Goals as goal
 
@@ -75,8 +78,15 @@ loop-turn-preserved c =
           (subst (λ (n : ℕ). Made (cs ++ c.sample_of.result ∷ []) n c.perform-in-loop-turn.new.self c.perform-in-loop-turn.new.harts c.perform-in-loop-turn.new.sink) (omega arith) both);
     }
 
+pub returns-clause-counted : goal.returns-clause-counted
+returns-clause-counted c =
+    let all : c.loop-turn.turn ≡ c.args.turns = omega (arith, c.loop-turn.invariant.most, c.loop-turn-test.false) in
+    c.loop-turn.invariant.made.counted
+    ∙ ap (λ (n : ℕ). counted none_counted (spellings plan.layout (stepped (demo_schedule n)))) all
+    ∙ ap (counted none_counted) (same_output c.engine_laws.ensures.scheduled (demo_schedule c.args.turns))
+
 pub returns-clause-harts : goal.returns-clause-harts
 returns-clause-harts c =
     let all : c.loop-turn.turn ≡ c.args.turns = omega (arith, c.loop-turn.invariant.most, c.loop-turn-test.false) in
-    c.engine_laws.ensures.harts plan first (turns c.args.turns) c.loop-turn.engine.tasks c.loop-turn.harts
+    harts_are_of c.engine_laws.ensures.lone_harts c.engine_laws.ensures.harts (demo_schedule c.args.turns) c.loop-turn.engine.tasks c.loop-turn.harts
     (subst (λ (n : ℕ). StandsFor plan first (turns n) c.loop-turn.engine.tasks c.loop-turn.harts) all c.loop-turn.invariant.made.stands)

@@ -21,7 +21,7 @@ returns-in-Ok-clause-answer g c =
       schedule = record { header = h; images = read.images; commands = [] };
       ready = record {
         none = refl;
-        size = read.size;
+        is = record { header = c.in_ok-header.ensures.sound; size = read.size; bytes = read.bytes; allowed = tt };
         plan = ap (λ (e : EngineState). e.plan) made;
         first = c.in-Ok.ensures.lone read.images read.are;
         few = subst (λ (p : Plan). p.harts ≤ 16) (sym (ap (λ (e : EngineState). e.plan) made)) c.in_ok-header.ensures.sound.harts;

@@ -5,8 +5,7 @@ use Rattle.rv_hart.specs.Hart.{HartState}
 use Rattle.replay_engine.specs.Tasks.{PresentState, present_states}
 use Rattle.replay_engine.specs.View.{Plan}
 use Rattle.sched_text.specs.Reader.{Reader}
-use Rattle.ctrsim_cli.specs.Schedule.{first_states}
-use Rattle.ctrsim_cli.specs.Parts.{PerformAnswer, OpenAnswer, Begins}
+use Rattle.ctrsim_cli.specs.Parts.{first_states, PerformAnswer, OpenAnswer, Begins}
 use Rattle.ctrsim_cli.specs.RunEnds.{RunEnds}
 use Rattle.ctrsim_cli.specs.declared.fault.Fault.{Fault}
 use Rattle.ctrsim_cli.proofs.RunLaws.{run_ends, not_opened}
@@ -28,7 +27,7 @@ returns-in-Ok-clause-ran g c =
     let ts = c.perform_all.new.engine.tasks in
     let hs = c.perform_all.new.harts in
     let first : present_states e.tasks c.args.harts.now ≡ first_states o.schedule = ap (λ (xs : List HartState). present_states e.tasks xs) c.requires ∙ o.ready.first in
-    run_ends g.K.Sink.gained g.met.K.Sink.gained_then c.engine_laws.ensures.samples c.engine_laws.ensures.harts old new h images ts hs lines hand left mid left' c.perform_all.result o.ready.size
+    run_ends g.K.Sink.gained g.met.K.Sink.gained_then c.engine_laws.ensures.samples c.engine_laws.ensures.scheduled c.engine_laws.ensures.lone_harts c.engine_laws.ensures.harts old new h images ts hs lines hand left mid left' c.perform_all.result (record { header = o.ready.is.header; size = o.ready.is.size; bytes = o.ready.is.bytes; allowed = tt })
     (subst (λ (r : Reader). Of (text_of r.hand left) mid (Begins lines h images)) c.new-reader.ensures o.begins)
     (subst (λ (p : Plan). PerformAnswer g.K.Sink.gained old new p (first_states o.schedule) ts hs lines mid (text_of hand left') hand c.perform_all.result) o.ready.plan
     (subst (λ (ps : List PresentState). PerformAnswer g.K.Sink.gained old new e.plan ps ts hs lines mid (text_of hand left') hand c.perform_all.result) first c.perform_all.ensures.answer))
