@@ -26,3 +26,4 @@ mod AtLaws
 mod BreakLaws
 mod LineLaws
 mod ScheduledLaws
+mod HartSetLaws

@@ -189,7 +189,7 @@ sample_is h images t own q None b at there = ap (λ (p : Option PresentState).
     lone_sample p (slice_get (plan_of h).tasks t) q (plan_of h) t own)
     (no_first_line h images t at)
 
-command_is : (h : Header) (images : List (List ℕ)) (before : List Command) (c : Command) →
+pub command_is : (h : Header) (images : List (List ℕ)) (before : List Command) (c : Command) →
     scheduled_of (plan_of h) (first_of h images) before c ≡ command_samples h images before c
 command_is h images before (Run g t n) =
     run_is h images g t (own_steps before t) n (slice_get h.tasks t) (slice_get images t) refl refl

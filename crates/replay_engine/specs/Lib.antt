@@ -21,4 +21,5 @@ pub mod Breaks
 pub mod Visible
 pub mod ByLine
 pub mod Scheduled
+pub mod HartSet
 pub mod Laws
