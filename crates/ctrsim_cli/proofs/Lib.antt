@@ -8,7 +8,7 @@ mod BrokenTexts
 mod Images
 mod PerformLaws
 mod Endings
-mod CutLaws
+mod ChainLaws
 mod RunLaws
 mod CountLaws
 mod DemoLaws

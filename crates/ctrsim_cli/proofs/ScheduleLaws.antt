@@ -23,7 +23,7 @@ use Rattle.sched_text.specs.declared.schedule.Command.TheVariants.{Run, Sample a
 use Rattle.sched_text.specs.declared.schedule.Header.{Header}
 use Rattle.sched_text.proofs.OneLaws.{one_of_each}
 use Rattle.ctrsim_cli.specs.Laws.{AcceptedAsOne, IsScheduledSample, SamplesAreOfLoneRuns, WrittenIsPrefix}
-use Rattle.ctrsim_cli.specs.RunEnds.{AreMade}
+use Rattle.replay_engine.specs.HartSet.{AreMade}
 use Rattle.ctrsim_cli.specs.Parts.{first_states}
 use Rattle.ctrsim_cli.specs.Schedule.{Schedule, IsSchedule, followed_by}
 use Rattle.ctrsim_cli.proofs.SteppedSchedules.{same_samples, same_output}

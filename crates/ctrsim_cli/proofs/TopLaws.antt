@@ -10,7 +10,8 @@ use Rattle.sched_text.specs.declared.schedule.Command.{Command}
 use Rattle.ctrsim_cli.specs.declared.fault.Fault.{Fault}
 use Rattle.ctrsim_cli.specs.declared.fault.Fault.TheVariants.{Usage, ReadFault, WriteFault, Line}
 use Rattle.ctrsim_cli.specs.declared.fault.Fault.TheVariants.{Memory, Sample as SampleAt}
-use Rattle.ctrsim_cli.specs.Demo.{DemoEnds}
+use Rattle.ctrsim_cli.specs.OnHarts.{CountedOnHarts}
+use Rattle.ctrsim_cli.proofs.ChainLaws.{PerformedBy}
 use Rattle.ctrsim_cli.specs.Fault.{status_of}
 use Rattle.ctrsim_cli.specs.Performed.{ReadCause, WriteCause}
 use Rattle.ctrsim_cli.specs.RunEnds.{RunEnds, RefusedBefore, RefusedAfter}
@@ -59,12 +60,12 @@ all_refused law left left' gained old new harts reads reads' writes writes' (Som
 all_refused law left left' gained old new harts reads reads' writes writes' (Some Usage) f is broken ends read write kept sent = absurd ends
 all_refused law left left' gained old new harts reads reads' writes writes' (Some (SampleAt at g)) f is broken ends read write kept sent = absurd ends
 
-pub all_summed : {K : Type 0} (gained : K → List ℕ → K → Type 0) (old new : K) (harts : List HartState) (writes writes' turns : ℕ) (fault : Option Fault) → DemoEnds gained old new harts turns fault → WriteCause writes writes' fault
+pub all_summed : {E H K : Type 0} (performed : PerformedBy E H) (gained : K → List ℕ → K → Type 0) (a b : H) (old new : K) (writes writes' turns : ℕ) (fault : Option Fault) → CountedOnHarts performed gained turns a b old new fault → WriteCause writes writes' fault
     → (Rose writes writes' → ⊥) → (status_of fault ≡ 0) ⊎ (status_of fault ≡ 7)
-all_summed gained old new harts writes writes' turns None ends write sent = inl refl
-all_summed gained old new harts writes writes' turns (Some WriteFault) ends write sent = absurd (sent write)
-all_summed gained old new harts writes writes' turns (Some Memory) ends write sent = inr refl
-all_summed gained old new harts writes writes' turns (Some Usage) ends write sent = absurd ends
-all_summed gained old new harts writes writes' turns (Some ReadFault) ends write sent = absurd ends
-all_summed gained old new harts writes writes' turns (Some (Line f)) ends write sent = absurd ends
-all_summed gained old new harts writes writes' turns (Some (SampleAt at f)) ends write sent = absurd ends
+all_summed performed gained a b old new writes writes' turns None ends write sent = inl refl
+all_summed performed gained a b old new writes writes' turns (Some WriteFault) ends write sent = absurd (sent write)
+all_summed performed gained a b old new writes writes' turns (Some Memory) ends write sent = inr refl
+all_summed performed gained a b old new writes writes' turns (Some Usage) ends write sent = absurd ends
+all_summed performed gained a b old new writes writes' turns (Some ReadFault) ends write sent = absurd ends
+all_summed performed gained a b old new writes writes' turns (Some (Line f)) ends write sent = absurd ends
+all_summed performed gained a b old new writes writes' turns (Some (SampleAt at f)) ends write sent = absurd ends

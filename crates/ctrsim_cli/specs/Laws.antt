@@ -3,12 +3,12 @@ use Rattle.std.specs.Prelude.{◌≡◌, ℕ, ◌<◌, ◌≤◌, List, [], ◌�
 use Rattle.std.specs.List.{All}
 use Rattle.perf_sample.specs.Spelling.{spelling}
 use Rattle.perf_sample.specs.declared.sample.Sample.{Sample}
+use Rattle.replay_engine.specs.HartSet.{AreMade}
 use Rattle.replay_engine.specs.Runs.{IsCut}
 use Rattle.replay_engine.specs.Scheduled.{IsSampleOf}
 use Rattle.replay_engine.specs.Start.{sample_layout}
 use Rattle.sched_text.specs.declared.schedule.Command.{Command}
 use Rattle.ctrsim_cli.specs.Demo.{demo_text, demo_schedule}
-use Rattle.ctrsim_cli.specs.RunEnds.{AreMade}
 use Rattle.ctrsim_cli.specs.Says.{IsAcceptedAs}
 use Rattle.ctrsim_cli.specs.Schedule.{Schedule, IsSchedule, samples_of, output_of, followed_by}
 

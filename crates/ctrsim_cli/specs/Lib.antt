@@ -12,6 +12,7 @@ pub mod Showing
 pub mod ShowEnds
 pub mod Demo
 pub mod Counted
+pub mod OnHarts
 pub mod Performed
 pub mod Parts
 pub mod Laws

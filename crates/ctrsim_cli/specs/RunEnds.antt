@@ -3,13 +3,12 @@ use Rattle.std.specs.Prelude.{◌≡◌, ◌⊎◌, ℕ, suc, ◌<◌, List, [],
 use Rattle.ctr_port.specs.InHand.{Of}
 use Rattle.perf_sample.specs.Spelling.{spelling}
 use Rattle.perf_sample.specs.declared.sample.Sample.{Sample}
+use Rattle.replay_engine.specs.HartSet.{AreMade}
 use Rattle.replay_engine.specs.Runs.{IsCut}
 use Rattle.replay_engine.specs.Start.{sample_layout}
 use Rattle.rv_hart.specs.Hart.{HartState, fresh_harts}
 use Rattle.sched_text.specs.declared.faults.LineFault.{LineFault}
 use Rattle.sched_text.specs.declared.schedule.Command.{Command}
-use Rattle.sched_text.specs.declared.schedule.Command.TheVariants.{Run, Sample as Sampled, Evict}
-use Rattle.sched_text.specs.declared.schedule.Command.TheVariants.{End}
 use Rattle.ctrsim_cli.specs.declared.fault.Fault.{Fault}
 use Rattle.ctrsim_cli.specs.declared.fault.Fault.TheVariants.{Usage, ReadFault, WriteFault, Line}
 use Rattle.ctrsim_cli.specs.declared.fault.Fault.TheVariants.{Memory, Sample as SampleAt}
@@ -66,15 +65,6 @@ pub record CutBefore {K : Type 0} (left left' : Option (List ℕ))
     (gained : K → List ℕ → K → Type 0) (old new : K) (harts : List HartState) : Type 0 where
   pub nothing : Nothing gained old new harts
   pub text : Of left left' (Took IsCutBefore)
-
--- where the sample after the last step that was made of a command failed: the command with the
--- steps that were made, and what of it came before the last step
-abbrev pub AreMade : Command → Command → List Command → Type 0
-AreMade (Run h t n) made before =
-    (m : ℕ) × (m < n) × (made ≡ Run h t (suc m)) × (before ≡ Run h t m ∷ [])
-AreMade (Sampled t) made before = (made ≡ Sampled t) × (before ≡ [])
-AreMade (Evict h) made before = ⊥
-AreMade End made before = ⊥
 
 -- a sample of a command after those of the schedule could not be written: the sink gained the bytes
 -- of all samples before it, and a proper prefix of its own; and the harts stand right after its

@@ -2,8 +2,8 @@
 
 ghost use Rattle.std.specs.Prelude.{◌≡◌, ◌↔◌, ℕ, List, Some};
 ghost use Rattle.perf_sample.specs.Layout.{LayoutWords};
-ghost use Rattle.rv_hart.specs.Hart.{fresh_harts};
 ghost use Rattle.ctrsim_cli.specs.Demo.{DemoEnds};
+ghost use Rattle.ctrsim_cli.specs.OnHarts.{ReadOnHarts, CountedOnHarts};
 ghost use Rattle.ctrsim_cli.specs.Performed.{ReadCause, WriteCause, fault_of};
 ghost use Rattle.ctrsim_cli.specs.RunEnds.{RunEnds};
 ghost use Rattle.ctrsim_cli.specs.ShowEnds.{ShowEnds, ShowsBytes};
@@ -16,7 +16,7 @@ use crate::showing::{ShowFault, show};
 use crate::words::{Word, word_of};
 use ctr_port::{Sink, Source};
 use perf_sample::{Layout, SampleFault};
-use rv_hart::Harts;
+use replay_engine::HartSet;
 use std::alloc::Global;
 
 // Which fault of the call a broken sample is.
@@ -48,23 +48,27 @@ fn show_all<S: Source, K: Sink>(layout: Layout, source: &mut S, sink: &mut K) ->
 }
 
 /// Does what the words ask for.
-pub fn command<S: Source, K: Sink>(
+pub fn command<S: Source, K: Sink, H: HartSet>(
     alloc: Global,
     words: &[String],
     source: &mut S,
     sink: &mut K,
-    harts: &mut Harts,
+    harts: &mut H,
 ) -> Option<Fault>
-    requires { harts.old ≡ fresh_harts }
-    ensures run { IsRun words.now → RunEnds (S.left source.old) (S.left source.new)
-        K.gained sink.old sink.new harts.new result }
+    requires { H.fresh harts.old }
+    ensures run { IsRun words.now → H.tells harts.old → RunEnds (S.left source.old)
+        (S.left source.new) K.gained sink.old sink.new (H.held harts.new) result }
+    ensures run_on_harts { IsRun words.now →
+        ReadOnHarts H.performed K.gained harts.old harts.new sink.old sink.new }
     ensures show { (layout : LayoutWords) → IsShow words.now layout →
         ShowEnds K.gained layout (S.left source.old) (S.left source.new) sink.old sink.new result }
     ensures bytes { (layout : LayoutWords) (bytes : List ℕ) → IsShow words.now layout →
         S.left source.old ≡ Some bytes →
         ShowsBytes K.gained layout bytes (S.left source.new) sink.old sink.new result }
-    ensures demo { (turns : ℕ) → IsDemo words.now turns →
-        DemoEnds K.gained sink.old sink.new harts.new turns result }
+    ensures demo { (turns : ℕ) → IsDemo words.now turns → H.tells harts.old →
+        DemoEnds K.gained sink.old sink.new (H.held harts.new) turns result }
+    ensures demo_on_harts { (turns : ℕ) → IsDemo words.now turns →
+        CountedOnHarts H.performed K.gained turns harts.old harts.new sink.old sink.new result }
     ensures shown { (layout : LayoutWords) → IsShow words.now layout → harts.new ≡ harts.old }
     ensures made { (turns : ℕ) → IsDemo words.now turns → source.new ≡ source.old }
     ensures usage { (result ≡ Some Fault.Usage) ↔ (IsKnown words.now → ⊥) }
@@ -76,9 +80,9 @@ pub fn command<S: Source, K: Sink>(
     match word_of(words) {
         None => Some(Fault::Usage),
         Some(word) => match word {
-            Word::Run => run(alloc, source, sink, harts),
+            Word::Run => run::<S, H, K>(alloc, source, sink, harts),
             Word::Show(layout) => show_all(layout, source, sink),
-            Word::Demo(turns) => demo(alloc, turns, sink, harts),
+            Word::Demo(turns) => demo::<H, K>(alloc, turns, sink, harts),
         },
     }
 }

@@ -2,12 +2,12 @@
 
 ghost use Rattle.std.specs.Prelude.{◌≡◌, ◌↔◌, ◌⊎◌, ◌≤◌, ℕ, Some, List, length};
 ghost use Rattle.ctr_port.specs.Counts.{Rose};
-ghost use Rattle.rv_hart.specs.Hart.{fresh_harts};
 ghost use Rattle.ctrsim_cli.specs.Fault.{status_of, said_if};
 ghost use Rattle.replay_engine.specs.Breaks.{IsAccepted, ScheduleBreak};
 ghost use Rattle.sched_text.specs.declared.faults.LineFault.{LineFault};
 ghost use Rattle.sched_text.specs.declared.schedule.Command.{Command};
 ghost use Rattle.ctrsim_cli.specs.Demo.{DemoEnds};
+ghost use Rattle.ctrsim_cli.specs.OnHarts.{ReadOnHarts, CountedOnHarts};
 ghost use Rattle.ctrsim_cli.specs.RunEnds.{RunEnds};
 ghost use Rattle.ctrsim_cli.specs.ShowEnds.{ShowEnds, ShowsBytes};
 ghost use Rattle.ctrsim_cli.specs.Showing.{AreSpelled, joined};
@@ -21,8 +21,7 @@ use crate::command::command;
 use crate::fault::{Fault, Outcome};
 use crate::notes::line_of;
 use ctr_port::{Sink, Source, write_whole};
-use replay_engine::engine_laws;
-use rv_hart::Harts;
+use replay_engine::{HartSet, engine_laws};
 use std::alloc::Global;
 
 // The exit status of a fault, or of none.
@@ -62,23 +61,28 @@ fn say<N: Sink>(fault: Option<Fault>, notes: &mut N)
 ///
 /// What is said of a fault goes to `notes`; a failure of `notes` changes neither the status nor the
 /// output. Memory is asked for under `run` and `demo` alone, and before the first command.
-pub fn ctrsim<S: Source, K: Sink, N: Sink>(
+pub fn ctrsim<S: Source, K: Sink, N: Sink, H: HartSet>(
     alloc: Global,
     words: &[String],
     source: &mut S,
     sink: &mut K,
     notes: &mut N,
-    harts: &mut Harts,
+    harts: &mut H,
 ) -> Outcome
-    requires { harts.old ≡ fresh_harts }
+    requires { H.fresh harts.old }
     ensures status { result.status ≡ status_of result.fault }
 
     // The headline. Without a fault all input is an accepted schedule, and the sink gained the
     // bytes of all its samples, in order, and nothing else; each is the sample of its task's lone
     // run, whatever other tasks and moves came between; and the harts are what the commands make of
     // them. With a fault, what was read, written and performed before it.
-    ensures run { IsRun words.now → RunEnds (S.left source.old) (S.left source.new)
-        K.gained sink.old sink.new harts.new result.fault }
+    ensures run { IsRun words.now → H.tells harts.old → RunEnds (S.left source.old)
+        (S.left source.new) K.gained sink.old sink.new (H.held harts.new) result.fault }
+
+    // Whatever the harts are, the sink gained what was read on them in the commands that were
+    // performed there, one after the other, and nothing else.
+    ensures run_on_harts { IsRun words.now →
+        ReadOnHarts H.performed K.gained harts.old harts.new sink.old sink.new }
 
     // The samples that were read, and their texts, which the sink gained.
     ensures show { (layout : LayoutWords) → IsShow words.now layout →
@@ -89,9 +93,13 @@ pub fn ctrsim<S: Source, K: Sink, N: Sink>(
         ShowsBytes K.gained layout bytes (S.left source.new) sink.old sink.new result.fault }
     ensures shown { (layout : LayoutWords) → IsShow words.now layout → harts.new ≡ harts.old }
 
-    // What the samples of the turns come to, and the harts after them; nothing is read.
-    ensures demo { (turns : ℕ) → IsDemo words.now turns →
-        DemoEnds K.gained sink.old sink.new harts.new turns result.fault }
+    // What the samples of the turns come to, and the harts after them; nothing is read from the
+    // source. Whatever the harts are, it is what was read on them that is counted.
+    ensures demo { (turns : ℕ) → IsDemo words.now turns → H.tells harts.old →
+        DemoEnds K.gained sink.old sink.new (H.held harts.new) turns result.fault }
+    ensures demo_on_harts { (turns : ℕ) → IsDemo words.now turns →
+        CountedOnHarts H.performed K.gained turns harts.old harts.new sink.old sink.new
+        result.fault }
     ensures made { (turns : ℕ) → IsDemo words.now turns → source.new ≡ source.old }
 
     // Other words come exactly to this, and touch nothing.
@@ -106,12 +114,12 @@ pub fn ctrsim<S: Source, K: Sink, N: Sink>(
         Rose (K.faults sink.old) (K.faults sink.new) }
 
     // Each comes wherever its cause is there, but for want of memory and for counts that rose.
-    ensures all_performed { IsRun words.now → (text : List ℕ) (commands : List Command) →
+    ensures all_performed { IsRun words.now → H.tells harts.old → (text : List ℕ) (commands : List Command) →
         S.left source.old ≡ Some text → IsAccepted text commands →
         (Rose (S.faults source.old) (S.faults source.new) → ⊥) →
         (Rose (K.faults sink.old) (K.faults sink.new) → ⊥) →
         (result.status ≡ 0) ⊎ (result.status ≡ 7) }
-    ensures all_refused { IsRun words.now → (text : List ℕ) (f : LineFault) →
+    ensures all_refused { IsRun words.now → H.tells harts.old → (text : List ℕ) (f : LineFault) →
         S.left source.old ≡ Some text → ScheduleBreak text f →
         (Rose (S.faults source.old) (S.faults source.new) → ⊥) →
         (Rose (K.faults sink.old) (K.faults sink.new) → ⊥) →

@@ -27,7 +27,7 @@ use std::alloc::Global;
 /// it, and can make no copy of them. So what it writes of the commands was read on the harts.
 pub trait HartSet {
     /// What performs commands on the harts.
-    type Engine;
+    type Engine: Drop;
 
     // the harts are as after a reset
     ghost fresh: { Self → Type 0 };

@@ -1,6 +1,7 @@
 use Rattle.std.proofs.Common.{ℕ, subst}
 use Rattle.perf_sample.specs.Layout.{LayoutWords}
 use Rattle.ctrsim_cli.specs.Demo.{DemoEnds}
+use Rattle.ctrsim_cli.specs.OnHarts.{CountedOnHarts}
 use Rattle.ctrsim_cli.specs.ShowEnds.{ShowEnds, ShowsBytes}
 use Rattle.ctrsim_cli.specs.Words.{IsAsked, IsShow, IsDemo}
 use Rattle.ctrsim_cli.specs.declared.words.Word.{Word}
@@ -27,8 +28,15 @@ returns-in-Show-clause-bytes g c = λ layout bytes show told.
     (c.show_all.ensures.bytes bytes told)
 
 pub returns-in-Demo-clause-demo : goal.returns-in-Demo-clause-demo
-returns-in-Demo-clause-demo g c = λ turns demo.
+returns-in-Demo-clause-demo g c = λ turns demo told.
     let asked : IsDemo c.args.words.now c.in-Demo.turns =
     subst (λ (w : Word). IsAsked c.args.words.now w) c.in-Demo.is c.in-Some.ensures.some in
-    subst (λ (n : ℕ). DemoEnds g.K.Sink.gained c.args.sink.now c.demo.new.sink c.demo.new.harts n c.demo.result)
-    (one_number c.args.words.now c.in-Demo.turns turns asked demo) c.demo.ensures.ends
+    subst (λ (n : ℕ). DemoEnds g.K.Sink.gained c.args.sink.now c.demo.new.sink (g.H.HartSet.held c.demo.new.harts) n c.demo.result)
+    (one_number c.args.words.now c.in-Demo.turns turns asked demo) (c.demo.ensures.ends told)
+
+pub returns-in-Demo-clause-demo_on_harts : goal.returns-in-Demo-clause-demo_on_harts
+returns-in-Demo-clause-demo_on_harts g c = λ turns demo.
+    let asked : IsDemo c.args.words.now c.in-Demo.turns =
+    subst (λ (w : Word). IsAsked c.args.words.now w) c.in-Demo.is c.in-Some.ensures.some in
+    subst (λ (n : ℕ). CountedOnHarts g.H.HartSet.performed g.K.Sink.gained n c.args.harts.now c.demo.new.harts c.args.sink.now c.demo.new.sink c.demo.result)
+    (one_number c.args.words.now c.in-Demo.turns turns asked demo) c.demo.ensures.on_harts
