@@ -1,5 +1,5 @@
 -- The schedule of `demo`: its tasks, and its turns, each of which may be performed.
-use Rattle.std.proofs.Common.{◌≡◌, refl, sym, ap, ◌∙◌, arith, ℕ, zero, suc, ◌+◌, ◌*◌, ◌/◌, ◌%◌, ◌≤◌, ◌<◌}
+use Rattle.std.proofs.Common.{◌≡◌, refl, sym, ap, ◌∙◌, arith, ℕ, zero, suc, ◌+◌, ◌*◌, ◌/◌, ◌%◌, ◌<◌}
 use Rattle.std.proofs.Common.{List, [], ◌∷◌, ◌++◌, length, replicate, add-one, append_assoc, true, nat_lt, nat_eq}
 use Rattle.std.specs.Prelude.{Some, None, Ok, Err}
 use Rattle.std.proofs.Common.{length-append, All}
@@ -10,7 +10,7 @@ use Rattle.std.proofs.lemmas.Option.{none-some}
 use Rattle.ctr_port.specs.Counts.{HasCause}
 use Rattle.replay_engine.specs.HartSet.{GoesOn}
 use Rattle.replay_engine.specs.Outcome.{is_write_fault}
-use Rattle.replay_engine.specs.Refusals.{refusal_after}
+use Rattle.replay_engine.specs.Refusals.{command_refusal}
 use Rattle.replay_engine.specs.Stands.{place_after, place_next}
 use Rattle.replay_engine.specs.Start.{plan_of, memories, AreMemories}
 use Rattle.replay_engine.specs.Tasks.{PresentState}
@@ -42,7 +42,7 @@ turns_more n = rw (add-one n) (sym (append_assoc (turns n) (run_of_turn n ∷ []
 abbrev pub plan : Plan
 plan = plan_of demo_header
 
-pub run_allowed : (cs : List Command) (i : ℕ) → refusal_after plan cs (run_of_turn i) ≡ None
+pub run_allowed : (cs : List Command) (i : ℕ) → command_refusal plan cs (run_of_turn i) ≡ None
 run_allowed cs i =
     let task : nat_lt (i % 8) 8 ≡ true = grind arith in
     let hart : nat_lt ((i + i / 8) % 4) 4 ≡ true = grind arith in
@@ -53,14 +53,14 @@ placed cs i =
     let same : nat_eq (i % 8) (i % 8) ≡ true = grind arith in
     fold-append (place_next (i % 8)) None cs (run_of_turn i ∷ []) ∙ rw (same) refl
 
-pub sample_allowed : (cs : List Command) (i : ℕ) → refusal_after plan (cs ++ run_of_turn i ∷ []) (sample_of_turn i) ≡ None
+pub sample_allowed : (cs : List Command) (i : ℕ) → command_refusal plan (cs ++ run_of_turn i ∷ []) (sample_of_turn i) ≡ None
 sample_allowed cs i =
     let task : nat_lt (i % 8) 8 ≡ true = grind arith in
     rw (task, placed cs i) refl
 
 -- a command that may be performed is, into a sink whose count of faults stays 0
 pub never : {A E H : Type 0} (follows : Follows E H) (tells : H → Type 0) (held : H → List HartState) (h : Header) (images : List (List ℕ)) (cs : List Command) (c : Command) (bytes : List ℕ) (a : H) (f : E) (b : H) (why : PerformFault)
-    → refusal_after (plan_of h) cs c ≡ None → GoesOn follows tells held h images cs c bytes a f b (Err why) → HasCause {T = Unit {0}} is_write_fault 0 0 (Err why) → A
+    → command_refusal (plan_of h) cs c ≡ None → GoesOn follows tells held h images cs c bytes a f b (Err why) → HasCause {T = Unit {0}} is_write_fault 0 0 (Err why) → A
 never follows tells held h images cs c bytes a f b NoTask fits e cause = absurd (none-some NoTask (sym fits ∙ e.refused))
 never follows tells held h images cs c bytes a f b NoHart fits e cause = absurd (none-some NoHart (sym fits ∙ e.refused))
 never follows tells held h images cs c bytes a f b NotResident fits e cause = absurd (none-some NotResident (sym fits ∙ e.refused))

@@ -1,15 +1,14 @@
 -- One command more, read and performed; and how the loop over them ends.
-use Rattle.std.proofs.Common.{◌≡◌, inl, inr, refl, sym, ap, ◌∙◌, subst, arith, ℕ, suc}
-use Rattle.std.proofs.Common.{◌+◌, ◌<◌, List, [], ◌∷◌, ◌++◌, length, length-append, append-nil, append_assoc, add-one}
-use Rattle.std.specs.Prelude.{Option, Some, None, Result, Ok, Err, false, true}
+use Rattle.std.proofs.Common.{◌≡◌, refl, sym, ap, ◌∙◌, subst, ℕ, suc}
+use Rattle.std.proofs.Common.{◌+◌, List, [], ◌∷◌, ◌++◌, length-append, append-nil, append_assoc, add-one}
+use Rattle.std.specs.Prelude.{Option, Some, None, Ok, false, true}
 use Rattle.std.proofs.lemmas.Bool.{or_from}
 use Rattle.ctr_port.specs.InHand.{Of}
 use Rattle.ctr_port.proofs.InHand.{of_then}
 use Rattle.perf_sample.specs.declared.sample.Sample.{Sample}
 use Rattle.replay_engine.specs.Breaks.{AllowedAfter}
-use Rattle.replay_engine.specs.HartSet.{IsNext}
 use Rattle.replay_engine.specs.Laws.{SamplesJoin}
-use Rattle.replay_engine.specs.Refusals.{refusal_after}
+use Rattle.replay_engine.specs.Refusals.{command_refusal}
 use Rattle.replay_engine.specs.Stands.{scheduled_samples, scheduled_of}
 use Rattle.replay_engine.specs.Tasks.{PresentState}
 use Rattle.replay_engine.specs.View.{Plan}
@@ -20,7 +19,6 @@ use Rattle.sched_text.specs.Reader.{count_after}
 use Rattle.sched_text.specs.Text.{has_end}
 use Rattle.sched_text.specs.declared.schedule.Command.{Command}
 use Rattle.sched_text.specs.declared.schedule.Command.TheVariants as command
-use Rattle.sched_text.specs.declared.schedule.Header.{Header}
 use Rattle.sched_text.proofs.FrontLaws.{end_more}
 use Rattle.ctrsim_cli.specs.Parts.{Performed}
 use Rattle.ctrsim_cli.proofs.ChainLaws.{Follows, PerformedBy, CommandsGoOn, chain_more}
@@ -48,11 +46,11 @@ pub counted_one : (n : ℕ) (c : Command) → is_end c ≡ false → count_after
 counted_one n c e = rw e refl
 
 -- one more command that may be performed
-pub allowed_more : (plan : Plan) (before cs : List Command) (c : Command) → AllowedAfter plan before cs → refusal_after plan (before ++ cs) c ≡ None
+pub allowed_more : (plan : Plan) (before cs : List Command) (c : Command) → AllowedAfter plan before cs → command_refusal plan (before ++ cs) c ≡ None
     → AllowedAfter plan before (cs ++ c ∷ [])
-allowed_more plan before [] c are e = (ap (λ (ds : List Command). refusal_after plan ds c) (sym (append-nil before)) ∙ e, tt)
+allowed_more plan before [] c are e = (ap (λ (ds : List Command). command_refusal plan ds c) (sym (append-nil before)) ∙ e, tt)
 allowed_more plan before (d ∷ cs) c are e =
-    (are.0, allowed_more plan (before ++ d ∷ []) cs c are.1 (ap (λ (ds : List Command). refusal_after plan ds c) (append_assoc before (d ∷ []) cs) ∙ e))
+    (are.0, allowed_more plan (before ++ d ∷ []) cs c are.1 (ap (λ (ds : List Command). command_refusal plan ds c) (append_assoc before (d ∷ []) cs) ∙ e))
 
 -- the samples of one command more
 pub samples_more : SamplesJoin → (plan : Plan) (first : List PresentState) (cs : List Command) (c : Command) →

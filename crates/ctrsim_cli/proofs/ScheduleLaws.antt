@@ -1,6 +1,6 @@
 -- Laws of whole schedules.
 use Rattle.std.proofs.Common.{◌≡◌, refl, sym, ap, ◌∙◌, arith, ℕ, zero, suc, ◌+◌, ◌-◌, ◌<◌, List, [], ◌∷◌, ◌++◌}
-use Rattle.std.proofs.Common.{length, map, drop, append-nil, append_assoc, length-append, take-append-drop, All}
+use Rattle.std.proofs.Common.{length, drop, append-nil, append_assoc, length-append, take-append-drop, All}
 use Rattle.std.specs.Prelude.{Option, Some, None, slice_get}
 use Rattle.std.proofs.lemmas.List.{append_cancel_right, length-drop}
 use Rattle.std.proofs.lemmas.List.Elements.{All-nil, All-append, All-weaker}

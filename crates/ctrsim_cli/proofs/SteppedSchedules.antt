@@ -1,6 +1,6 @@
 -- The samples and the harts of a schedule as an engine steps through them, which are those of the
 -- lone runs.
-use Rattle.std.proofs.Common.{◌≡◌, ap, ℕ, List}
+use Rattle.std.proofs.Common.{◌≡◌, ap, List}
 use Rattle.perf_sample.specs.declared.sample.Sample.{Sample}
 use Rattle.replay_engine.specs.HartsAt.{StandingHartsAreAt}
 use Rattle.replay_engine.specs.Runs.{spellings}

@@ -16,7 +16,7 @@ use Rattle.replay_engine.specs.Runs.{spellings}
 use Rattle.std.specs.Prelude.{Option, Some, None, slice_get, cond, replicate}
 use Rattle.std.proofs.lemmas.List.{length-map}
 use Rattle.std.proofs.lemmas.List.Sums.{length-filter, count_by-le-length}
-use Rattle.std.proofs.lemmas.List.Elements.{All-push, All-nil, All-cons, All-append}
+use Rattle.std.proofs.lemmas.List.Elements.{All-push, All-nil, All-append}
 use Rattle.std.proofs.lemmas.Option.{none-some, same_Some}
 use Rattle.ctr_buffer.specs.Entry.{valid_entries, is_valid}
 use Rattle.ctr_csrs.specs.Depths.{entries_of}
@@ -24,7 +24,7 @@ use Rattle.ctr_csrs.specs.declared.depth.Depth.{Depth}
 use Rattle.ctr_csrs.specs.declared.depth.Depth.TheVariants.{D16, D32, D64, D128, D256}
 use Rattle.replay_engine.specs.Laws.{PresentsAreSteps}
 use Rattle.replay_engine.specs.Runs.{present_after, is_due, due_sample}
-use Rattle.replay_engine.specs.Samples.{branch_of, sample_of}
+use Rattle.replay_engine.specs.Samples.{branch_of_entry, sample_of}
 use Rattle.replay_engine.specs.Laws.{SamplesJoin}
 use Rattle.replay_engine.specs.Stands.{lone_samples, lone_run_samples, lone_sample, scheduled_samples, scheduled_of, own_steps, place_after}
 use Rattle.replay_engine.specs.View.{Plan, subject_of}
@@ -32,7 +32,7 @@ use Rattle.replay_engine.specs.Start.{orders_from, tasks_of_lines, task_of_line,
 use Rattle.replay_engine.specs.Tasks.{PresentState}
 use Rattle.replay_engine.specs.declared.plan.Orders.{Orders}
 use Rattle.replay_engine.specs.declared.sampling.Subject.{Subject}
-use Rattle.rv_hart.specs.Facts.{IsState, StepsKeep, LoneRunKeeps, AreBytes}
+use Rattle.rv_hart.specs.Facts.{IsState, StepsKeep, LoneRunKeeps}
 use Rattle.rv_hart.specs.Task.{Irq, AreInterrupts}
 use Rattle.sched_text.specs.declared.schedule.TaskLine.{TaskLine}
 use Rattle.ctrsim_cli.specs.declared.counting.Counter.{Counter}
@@ -247,7 +247,7 @@ branches_most (x ∷ xs) few =
 few_of : (s : Subject) (p : PresentState) → IsState p.state → Few (sample_of s p)
 few_of s p is =
     let slots = p.state.unit.stack.slots in
-    omega (arith, length-map (valid_entries slots) branch_of, length-filter is_valid slots, count_by-le-length is_valid slots, is.unit.buffer.stack.full, depths p.state.unit.stack.depth)
+    omega (arith, length-map (valid_entries slots) branch_of_entry, length-filter is_valid slots, count_by-le-length is_valid slots, is.unit.buffer.stack.full, depths p.state.unit.stack.depth)
   where
     depths : (d : Depth) → entries_of d ≤ 256
     depths D16 = omega arith

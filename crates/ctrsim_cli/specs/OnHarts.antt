@@ -5,8 +5,7 @@ use Rattle.ctr_port.specs.Sink.{GainsPart}
 use Rattle.replay_engine.specs.declared.fault.PerformFault.{PerformFault}
 use Rattle.sched_text.specs.declared.schedule.Command.{Command}
 use Rattle.ctrsim_cli.specs.declared.fault.Fault.{Fault}
-use Rattle.ctrsim_cli.specs.declared.fault.Fault.TheVariants.{Usage, ReadFault, WriteFault, Line}
-use Rattle.ctrsim_cli.specs.declared.fault.Fault.TheVariants.{Memory, Sample as SampleAt}
+use Rattle.ctrsim_cli.specs.declared.fault.Fault.TheVariants.{WriteFault, Memory}
 use Rattle.ctrsim_cli.specs.Counted.{none_counted, counted}
 use Rattle.ctrsim_cli.specs.Demo.{summary_line, turns}
 use Rattle.ctrsim_cli.specs.declared.counting.Counter.{Counter}
@@ -71,7 +70,4 @@ CountedOnHarts performed gained n a b old new None =
 CountedOnHarts performed gained n a b old new (Some WriteFault) =
     TurnsAreReadOn performed n a b (GainsPart gained old new)
 CountedOnHarts performed gained n a b old new (Some Memory) = (b ≡ a) × gained old [] new
-CountedOnHarts performed gained n a b old new (Some Usage) = ⊥
-CountedOnHarts performed gained n a b old new (Some ReadFault) = ⊥
-CountedOnHarts performed gained n a b old new (Some (Line f)) = ⊥
-CountedOnHarts performed gained n a b old new (Some (SampleAt at fault)) = ⊥
+CountedOnHarts performed gained n a b old new (Some _) = ⊥

@@ -1,5 +1,5 @@
 -- What holds when the word `run` was followed, by the fault: the headline.
-use Rattle.std.specs.Prelude.{◌≡◌, ◌⊎◌, ℕ, suc, ◌<◌, List, [], ◌∷◌, ◌++◌, Option, Some, None}
+use Rattle.std.specs.Prelude.{◌≡◌, ◌⊎◌, ℕ, List, [], ◌∷◌, ◌++◌, Option, Some, None}
 use Rattle.ctr_port.specs.InHand.{Of}
 use Rattle.perf_sample.specs.Spelling.{spelling}
 use Rattle.perf_sample.specs.declared.sample.Sample.{Sample}
@@ -10,8 +10,7 @@ use Rattle.rv_hart.specs.Hart.{HartState, fresh_harts}
 use Rattle.sched_text.specs.declared.faults.LineFault.{LineFault}
 use Rattle.sched_text.specs.declared.schedule.Command.{Command}
 use Rattle.ctrsim_cli.specs.declared.fault.Fault.{Fault}
-use Rattle.ctrsim_cli.specs.declared.fault.Fault.TheVariants.{Usage, ReadFault, WriteFault, Line}
-use Rattle.ctrsim_cli.specs.declared.fault.Fault.TheVariants.{Memory, Sample as SampleAt}
+use Rattle.ctrsim_cli.specs.declared.fault.Fault.TheVariants.{ReadFault, WriteFault, Line, Memory}
 use Rattle.ctrsim_cli.specs.Says.{IsAcceptedAs, IsRefusedAfter, IsRefusedBefore, IsTakenTo}
 use Rattle.ctrsim_cli.specs.Says.{IsCutBefore, IsCutAfter, Took}
 use Rattle.ctrsim_cli.specs.Schedule.{Schedule, IsSchedule, samples_of, output_of, HartsAreOf}
@@ -102,5 +101,4 @@ RunEnds left left' gained old new harts (Some ReadFault) =
 RunEnds left left' gained old new harts (Some WriteFault) =
     WriteFailed left left' gained old new harts
 RunEnds left left' gained old new harts (Some Memory) = Nothing gained old new harts
-RunEnds left left' gained old new harts (Some Usage) = ⊥
-RunEnds left left' gained old new harts (Some (SampleAt at fault)) = ⊥
+RunEnds left left' gained old new harts (Some _) = ⊥

@@ -70,9 +70,7 @@ pub(crate) fn run<S: Source, H: HartSet, K: Sink>(
     H::laws();
     let mut reader = ScheduleReader::new();
     match open::<S, H>(alloc, &mut reader, source) {
-        Ok(mut engine) => {
-            perform_all::<S, H, K>(&mut reader, source, &mut engine, harts, sink)
-        }
+        Ok(mut engine) => { perform_all::<S, H, K>(&mut reader, source, &mut engine, harts, sink) }
         Err(fault) => Some(not_opened(fault)),
     }
 }

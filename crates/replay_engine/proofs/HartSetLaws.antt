@@ -1,15 +1,13 @@
 -- How a command goes on for the engine and the sixteen harts.
-use Rattle.std.proofs.Common.{◌≡◌, refl, sym, ◌∙◌, ap, subst, ℕ, suc, ◌+◌, ◌*◌, ◌^◌, ◌<◌, ◌≤◌, List}
+use Rattle.std.proofs.Common.{◌≡◌, refl, sym, ◌∙◌, ap, subst, ℕ, suc, ◌+◌, ◌*◌, ◌^◌, ◌<◌, List}
 use Rattle.std.proofs.Common.{[], ◌∷◌, ◌++◌, length, take, arith, append-nil, length-append}
 use Rattle.std.proofs.Common.{Bool, true, false, cond}
-use Rattle.std.specs.Prelude.{slice_get, Option, Some, None, Result, Ok, Err, OnOk, IfOk}
+use Rattle.std.specs.Prelude.{slice_get, Option, Some, None, Result, Ok, Err}
 use Rattle.std.proofs.lemmas.List.{append_cancel_left}
-use Rattle.ctr_port.specs.Sink.{GainsPart}
 use Rattle.perf_sample.specs.Layout.{LayoutWords}
 use Rattle.perf_sample.specs.Spelling.{spelling}
 use Rattle.perf_sample.specs.declared.sample.Sample.{Sample}
-use Rattle.rv_hart.specs.Hart.{HartState, fresh_harts}
-use Rattle.sched_text.specs.Header.{IsHeader}
+use Rattle.rv_hart.specs.Hart.{HartState}
 use Rattle.sched_text.specs.declared.schedule.Command.{Command}
 use Rattle.sched_text.specs.declared.schedule.Command.TheVariants.{Run, Sample as Sampled, Evict}
 use Rattle.sched_text.specs.declared.schedule.Command.TheVariants.{End}
@@ -20,20 +18,20 @@ use Rattle.replay_engine.specs.declared.fault.PerformFault.TheVariants.{EmptyHar
 use Rattle.replay_engine.specs.declared.plan.Orders.{Orders}
 use Rattle.replay_engine.specs.Counts.{CountsWithin}
 use Rattle.replay_engine.specs.Engine.{EngineState}
-use Rattle.replay_engine.specs.HartSet.{StopsAt, IsNext, IsHeldUp, IsStopped, GoesOn, StandsBehind}
+use Rattle.replay_engine.specs.HartSet.{StopsAt, IsHeldUp, GoesOn, StandsBehind}
 use Rattle.replay_engine.specs.HartSet.{Appended, IsPerformedOn}
 use Rattle.replay_engine.specs.Outcome.{refusal, IsOutcome, IsRefused, CommandBroken}
-use Rattle.replay_engine.specs.Refusals.{refusal_after}
+use Rattle.replay_engine.specs.Refusals.{command_refusal}
 use Rattle.replay_engine.specs.Runs.{present_after, is_due, spellings, IsCut}
 use Rattle.replay_engine.specs.Samples.{sample_of}
 use Rattle.replay_engine.specs.Scheduled.{samples_from, command_samples, AreHartsOf, first_of}
 use Rattle.replay_engine.specs.Stands.{StandsFor, scheduled_of, lone_run_samples, lone_sample}
 use Rattle.replay_engine.specs.Stands.{lone_samples, own_steps, place_after}
-use Rattle.replay_engine.specs.StandsAfter.{StandsAfter, StandsForPart, StandsForSample, StandsCutOff}
-use Rattle.replay_engine.specs.Start.{plan_of, sample_layout, fresh_engine, memories}
-use Rattle.replay_engine.specs.Tasks.{TaskState, PresentState, PlacesAgree, present_states}
+use Rattle.replay_engine.specs.StandsAfter.{StandsAfter, StandsCutOff}
+use Rattle.replay_engine.specs.Start.{plan_of, sample_layout}
+use Rattle.replay_engine.specs.Tasks.{TaskState, PresentState, PlacesAgree}
 use Rattle.replay_engine.specs.View.{View, Plan, view_of, subject_of, samples_of_command}
-use Rattle.replay_engine.proofs.AfterLaws.{stands_after, counts_after, agrees_after}
+use Rattle.replay_engine.proofs.AfterLaws.{stands_after, counts_after}
 use Rattle.replay_engine.proofs.AtLaws.{standing_harts_are_at}
 use Rattle.replay_engine.proofs.EngineLaws.{refusals_agree}
 use Rattle.replay_engine.proofs.ScheduledLaws.{command_is, harts_are_lone}
@@ -216,7 +214,7 @@ held_up : (h : Header) (images : List (List ℕ)) (cs : List Command) (e f : Eng
     (a b : List HartState) (c : Command) (bytes : List ℕ) (why : PerformFault) →
     StandsBehind h images cs e a → f.plan ≡ e.plan → f.broken ≡ false →
     IsRefused [] bytes e.plan e.tasks f.tasks a b c why →
-    refusal_after (plan_of h) cs c ≡ Some why →
+    command_refusal (plan_of h) cs c ≡ Some why →
     IsHeldUp StandsBehind (λ (x : List HartState). Unit {0}) h images cs c bytes a f b why
 held_up h images cs e f a b c bytes why s plan whole r refused = record {
   refused = refused;
@@ -240,7 +238,7 @@ held_up h images cs e f a b c bytes why s plan whole r refused = record {
 
 may_perform : (h : Header) (images : List (List ℕ)) (cs : List Command) (e : EngineState)
     (a : List HartState) (c : Command) → StandsBehind h images cs e a →
-    refusal e.plan (view_of e.tasks a) c ≡ None → refusal_after (plan_of h) cs c ≡ None
+    refusal e.plan (view_of e.tasks a) c ≡ None → command_refusal (plan_of h) cs c ≡ None
 may_perform h images cs e a c s is =
     sym (refusals_agree (plan_of h) (first_of h images) cs (view_of e.tasks a) c s.header.harts
     s.stands.view)
@@ -302,7 +300,9 @@ command_goes_on h images cs e f a b c (Err EmptyHart) bytes s p =
     (stands_then h images cs e f a b c (Err EmptyHart) bytes s p)
 command_goes_on h images cs e f a b c (Err Write) bytes s p = record {
   allowed = may_perform h images cs e a c s p.outcome.allowed;
-  told = λ told.
-      (tt, stops h images cs c bytes f.tasks b
-      (stands_then h images cs e f a b c (Err Write) bytes s p));
+  told = λ told. (
+    tt,
+    stops h images cs c bytes f.tasks b
+        (stands_then h images cs e f a b c (Err Write) bytes s p),
+  );
 }

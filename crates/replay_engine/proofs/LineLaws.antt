@@ -1,30 +1,20 @@
 -- The plan and the tasks of a header, by its task lines.
-use Rattle.std.proofs.Common.{◌≡◌, refl, sym, ◌∙◌, ap, ℕ, zero, suc, ◌+◌, List, [], ◌∷◌, ◌++◌}
-use Rattle.std.proofs.Common.{length, map, Bool, true, false, cond, Option, Some, arith}
+use Rattle.std.proofs.Common.{◌≡◌, refl, sym, ◌∙◌, ap, ℕ, zero, suc, ◌+◌, List, [], ◌∷◌}
+use Rattle.std.proofs.Common.{length, Some, arith}
 use Rattle.std.specs.Prelude.{slice_get}
-use Rattle.std.specs.List.{All, filter, range_with_len}
-use Rattle.std.proofs.lemmas.List.{map-append}
-use Rattle.std.proofs.lemmas.List.Elements.{All-nil, All-cons, All-head, All-tail, filter-append}
+use Rattle.std.specs.List.{All}
+use Rattle.std.proofs.lemmas.List.Elements.{All-nil, All-cons, All-head, All-tail}
 use Rattle.std.proofs.lemmas.Option.{none-some}
 use Rattle.rv_hart.specs.Facts.{AreBytes, IsTask}
 use Rattle.rv_hart.specs.Task.{Irq, Task, AreInterrupts}
-use Rattle.perf_sample.specs.declared.sample.Sample.{Sample}
 use Rattle.sched_text.specs.declared.schedule.IrqLine.{IrqLine}
 use Rattle.sched_text.specs.declared.schedule.TaskLine.{TaskLine}
 use Rattle.replay_engine.specs.declared.plan.Orders.{Orders}
-use Rattle.replay_engine.specs.declared.sampling.Subject.{Subject}
 use Rattle.replay_engine.specs.ByLine.{PlansSayHeaders, HeadersGiveTasks, HeadersGiveSoundTasks}
-use Rattle.replay_engine.specs.Runs.{due_sample, is_due, present_after}
-use Rattle.replay_engine.specs.Samples.{sample_of}
-use Rattle.replay_engine.specs.Stands.{lone_run_samples, lone_sample, lone_samples, own_steps}
-use Rattle.replay_engine.specs.Stands.{place_after}
-use Rattle.replay_engine.specs.Start.{first_present, lone_present, irqs_of, orders_from, plan_of}
+use Rattle.replay_engine.specs.Start.{irqs_of, orders_from}
 use Rattle.replay_engine.specs.Start.{task_of_line, tasks_of_lines}
-use Rattle.replay_engine.specs.Tasks.{PresentState}
-use Rattle.replay_engine.specs.View.{subject_of}
 use Rattle.replay_engine.proofs.EngineLaws.{headers_give_interrupts}
-use Rattle.replay_engine.proofs.Items.{get_map, some_of}
-use Rattle.replay_engine.proofs.LoneRuns.{lone_is}
+use Rattle.replay_engine.proofs.Items.{some_of}
 use Rattle.replay_engine.proofs.StartLaws.{length_orders}
 
 abbrev pub order_of : TaskLine → List Irq → Orders

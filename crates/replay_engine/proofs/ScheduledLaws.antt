@@ -13,12 +13,11 @@ use Rattle.std.specs.Option.{option_map}
 use Rattle.ctr_buffer.specs.Entry.{valid_entries}
 use Rattle.ctr_csrs.specs.Depths.{entries_of}
 use Rattle.perf_sample.specs.declared.sample.Sample.{Sample}
-use Rattle.rv_hart.specs.Facts.{AreBytes, IsTask}
+use Rattle.rv_hart.specs.Facts.{IsTask}
 use Rattle.rv_hart.specs.Hart.{HartState}
 use Rattle.rv_hart.specs.Lone.{lone_run}
 use Rattle.rv_hart.specs.Task.{Task}
 use Rattle.rv_hart.specs.Unreturned.{ValidAreVisibleInRuns}
-use Rattle.sched_text.specs.Header.{IsHeader}
 use Rattle.sched_text.specs.declared.schedule.Command.{Command}
 use Rattle.sched_text.specs.declared.schedule.Command.TheVariants.{Run, Sample as Sampled, Evict}
 use Rattle.sched_text.specs.declared.schedule.Command.TheVariants.{End}
@@ -28,12 +27,12 @@ use Rattle.sched_text.specs.declared.schedule.TaskLine.{TaskLine}
 use Rattle.replay_engine.specs.declared.plan.Orders.{Orders}
 use Rattle.replay_engine.specs.declared.sampling.Subject.{Subject}
 use Rattle.task_switch.specs.Costs.{save_cost, restore_cost}
-use Rattle.replay_engine.specs.HartsAt.{AreAt, IsAt}
+use Rattle.replay_engine.specs.HartsAt.{IsAt}
 use Rattle.replay_engine.specs.Runs.{due_sample, is_due, present_after, sampling_costs, due_cost}
 use Rattle.replay_engine.specs.Samples.{sample_of, sampling_cost}
 use Rattle.replay_engine.specs.Scheduled.{of_both, lone_task, lone_run_of, due_counts, sample_where}
 use Rattle.replay_engine.specs.Scheduled.{command_samples, samples_from, depth_in, depth_after}
-use Rattle.replay_engine.specs.Scheduled.{run_accesses, command_accesses, accesses_from, IsHartOf}
+use Rattle.replay_engine.specs.Scheduled.{command_accesses, accesses_from, IsHartOf}
 use Rattle.replay_engine.specs.Scheduled.{IsSampleOf, first_of, SamplesAreLone, HartsAreLone}
 use Rattle.replay_engine.specs.Scheduled.{SamplesAreGiven}
 use Rattle.replay_engine.specs.Stands.{lone_run_samples, lone_sample, lone_samples, own_steps}

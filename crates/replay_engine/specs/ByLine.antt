@@ -1,18 +1,13 @@
 -- The plan and the tasks of a header, told of its task lines one at a time.
-use Rattle.std.specs.Prelude.{◌≡◌, ℕ, ◌+◌, List, [], ◌∷◌, length, map, slice_get, Some, None}
-use Rattle.std.specs.List.{All, filter, range_with_len}
+use Rattle.std.specs.Prelude.{◌≡◌, ℕ, List, length, slice_get, Some}
+use Rattle.std.specs.List.{All}
 use Rattle.rv_hart.specs.Facts.{AreBytes, IsTask}
 use Rattle.rv_hart.specs.Task.{Task}
-use Rattle.perf_sample.specs.declared.sample.Sample.{Sample}
 use Rattle.sched_text.specs.Header.{IsHeader}
-use Rattle.sched_text.specs.declared.schedule.Command.{Command}
-use Rattle.sched_text.specs.declared.schedule.Command.TheVariants.{Run, Sample as Sampled}
 use Rattle.sched_text.specs.declared.schedule.Header.{Header}
 use Rattle.sched_text.specs.declared.schedule.TaskLine.{TaskLine}
 use Rattle.replay_engine.specs.declared.plan.Orders.{Orders}
-use Rattle.replay_engine.specs.Runs.{is_due}
-use Rattle.replay_engine.specs.Stands.{own_steps, place_after, scheduled_of}
-use Rattle.replay_engine.specs.Start.{first_present, irqs_of, lone_sample_of, plan_of, task_of_line}
+use Rattle.replay_engine.specs.Start.{irqs_of, plan_of, task_of_line}
 use Rattle.replay_engine.specs.Start.{tasks_of_lines}
 use Rattle.replay_engine.specs.View.{Plan}
 use Rattle.replay_engine.specs.Visible.{IsPlanOf}

@@ -18,7 +18,7 @@ use Rattle.replay_engine.specs.declared.fault.PerformFault.TheVariants.{EmptyHar
 use Rattle.replay_engine.specs.Counts.{CountsWithin}
 use Rattle.replay_engine.specs.Engine.{EngineState}
 use Rattle.replay_engine.specs.Outcome.{IsOutcome, is_write}
-use Rattle.replay_engine.specs.Refusals.{refusal_after}
+use Rattle.replay_engine.specs.Refusals.{command_refusal}
 use Rattle.replay_engine.specs.Runs.{spellings, IsCut}
 use Rattle.replay_engine.specs.Scheduled.{samples_from, command_samples, AreHartsOf, first_of}
 use Rattle.replay_engine.specs.Stands.{StandsFor}
@@ -56,7 +56,7 @@ pub record IsNext {E H : Type 0}
     (follows : Header → List (List ℕ) → List Command → E → H → Type 0) (tells : H → Type 0)
     (h : Header) (images : List (List ℕ)) (cs : List Command) (c : Command) (bytes : List ℕ) (a : H)
     (f : E) (b : H) : Type 0 where
-  pub allowed : refusal_after (plan_of h) cs c ≡ None
+  pub allowed : command_refusal (plan_of h) cs c ≡ None
   pub next : follows h images (cs ++ c ∷ []) f b
   pub told : tells a → tells b
       × (bytes ≡ spellings (sample_layout h) (command_samples h images cs c))
@@ -66,7 +66,7 @@ pub record IsHeldUp {E H : Type 0}
     (follows : Header → List (List ℕ) → List Command → E → H → Type 0) (tells : H → Type 0)
     (h : Header) (images : List (List ℕ)) (cs : List Command) (c : Command) (bytes : List ℕ) (a : H)
     (f : E) (b : H) (why : PerformFault) : Type 0 where
-  pub refused : refusal_after (plan_of h) cs c ≡ Some why
+  pub refused : command_refusal (plan_of h) cs c ≡ Some why
   pub same : follows h images cs f b
   pub told : tells a → tells b
   pub none : bytes ≡ []
@@ -75,7 +75,7 @@ pub record IsHeldUp {E H : Type 0}
 pub record IsStopped {H : Type 0} (tells : H → Type 0) (held : H → List HartState) (h : Header)
     (images : List (List ℕ)) (cs : List Command) (c : Command) (bytes : List ℕ) (a b : H)
     : Type 0 where
-  pub allowed : refusal_after (plan_of h) cs c ≡ None
+  pub allowed : command_refusal (plan_of h) cs c ≡ None
   pub told : tells a → tells b × StopsAt h images cs c bytes (held b)
 
 -- how a command goes on after others, by its answer

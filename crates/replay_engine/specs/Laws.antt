@@ -14,7 +14,7 @@ use Rattle.replay_engine.specs.declared.sampling.Subject.{Subject}
 use Rattle.replay_engine.specs.Counts.{CountsWithin}
 use Rattle.replay_engine.specs.Outcome.{refusal}
 use Rattle.replay_engine.specs.Placing.{IsOn}
-use Rattle.replay_engine.specs.Refusals.{refusal_after}
+use Rattle.replay_engine.specs.Refusals.{command_refusal}
 use Rattle.replay_engine.specs.Runs.{present_after, samples_of_steps}
 use Rattle.replay_engine.specs.Stands.{own_steps, place_after, resident_after, ViewStandsFor}
 use Rattle.replay_engine.specs.Stands.{scheduled_from, scheduled_samples}
@@ -89,7 +89,7 @@ CountsLoosen = (a b s q n m : ℕ) (v : View) → a ≤ b → s ≤ q → n ≤ 
 abbrev pub RefusalsAgree : Type 0
 RefusalsAgree = (plan : Plan) (first : List PresentState) (cs : List Command) (v : View)
     (c : Command) →
-    plan.harts ≤ 16 → ViewStandsFor plan first cs v → refusal plan v c ≡ refusal_after plan cs c
+    plan.harts ≤ 16 → ViewStandsFor plan first cs v → refusal plan v c ≡ command_refusal plan cs c
 
 -- the irq lines of an accepted header are interrupts of its tasks
 abbrev pub HeadersGiveInterrupts : Type 0

@@ -1,7 +1,7 @@
--- What a reader must believe: Samples, Start and Visible; of Runs is_due, spellings and IsCut; of
--- Stands the steps, the places and the names of commands; of View `is_at`; Refusals with no_place of
--- Outcome; Breaks; and Scheduled, but for its laws. All else ties functions to them, and says what
--- follows from them.
+-- What a reader must believe: Scheduled with Samples and Start; of Runs is_due, spellings and IsCut;
+-- of Stands the steps, the places and the names of commands; of View Plan and is_at; Refusals with
+-- no_place of Outcome; Breaks; and AreMade of HartSet. docs/definitions.md lists them. All else ties
+-- functions to them, and says what follows from them.
 pub mod Irqs
 pub mod Tasks
 pub mod Samples

@@ -27,12 +27,12 @@ misc_of modes.Vs = MISC_GUEST_KERNEL
 misc_of modes.Vu = MISC_GUEST_USER
 
 -- an entry as a branch: its addresses without V and MISP, and the flags of its type and MISP
-abbrev pub branch_of : Entry → Branch
-branch_of e = transfer_branch (source_address e) (target_address e) e.kind (is_mispredicted e)
+abbrev pub branch_of_entry : Entry → Branch
+branch_of_entry e = transfer_branch (source_address e) (target_address e) e.kind (is_mispredicted e)
 
 -- those of the entries that hold a transfer, the youngest first
 abbrev pub branches_of : List Entry → List Branch
-branches_of entries = map branch_of (valid_entries entries)
+branches_of entries = map branch_of_entry (valid_entries entries)
 
 -- where the buffer keeps its youngest entry: one before the write pointer, modulo the depth
 abbrev pub youngest_place : Stack → ℕ
@@ -43,25 +43,25 @@ abbrev pub hw_index_of : Stack → ℕ
 hw_index_of s = if nat_eq (length (valid_entries s.slots)) 0 then 2 ^ 64 - 1 else youngest_place s
 
 -- a field that the layout leaves out is 0
-abbrev pub kept : LayoutWords → Place → ℕ → ℕ
-kept layout p value = if has layout p then value else 0
+abbrev pub if_asked : LayoutWords → Place → ℕ → ℕ
+if_asked layout p value = if has layout p then value else 0
 
 -- the sample of a task, of whom, where and how often the subject says, with this core, this record
 -- buffer and so many steps
 abbrev pub sample_by : Subject → CoreState → Stack → ℕ → Sample
 sample_by s core stack steps = record {
   misc = misc_of core.mode;
-  identifier = kept s.layout place.Identifier s.task;
-  ip = kept s.layout place.Ip core.pc;
-  pid = kept s.layout place.Tid (s.task + 1);
-  tid = kept s.layout place.Tid (s.task + 1);
-  time = kept s.layout place.Time steps;
+  identifier = if_asked s.layout place.Identifier s.task;
+  ip = if_asked s.layout place.Ip core.pc;
+  pid = if_asked s.layout place.Tid (s.task + 1);
+  tid = if_asked s.layout place.Tid (s.task + 1);
+  time = if_asked s.layout place.Time steps;
   addr = 0;
-  id = kept s.layout place.Id s.task;
+  id = if_asked s.layout place.Id s.task;
   stream_id = 0;
-  cpu = kept s.layout place.Cpu s.hart;
-  period = kept s.layout place.Period s.period;
-  hw_index = kept s.layout place.HwIndex (hw_index_of stack);
+  cpu = if_asked s.layout place.Cpu s.hart;
+  period = if_asked s.layout place.Period s.period;
+  hw_index = if_asked s.layout place.HwIndex (hw_index_of stack);
   branches = branches_of stack.slots;
 }
 

@@ -1,6 +1,6 @@
 -- The samples and the harts of a schedule, told of its header, its images and the lone runs of its
 -- tasks alone.
-use Rattle.std.specs.Prelude.{◌≡◌, ℕ, ◌+◌, Bool, false, cond, nat_eq, List, [], ◌∷◌, ◌++◌, length}
+use Rattle.std.specs.Prelude.{◌≡◌, ℕ, ◌+◌, false, cond, nat_eq, List, [], ◌∷◌, ◌++◌, length}
 use Rattle.std.specs.Prelude.{map, slice_get, Option, Some, None}
 use Rattle.std.specs.List.{All, filter, list_any, range_with_len, sum_by}
 use Rattle.ctr_csrs.specs.Depths.{entries_of}

@@ -32,12 +32,12 @@ abbrev pub depth_named : ℕ → Depth
 depth_named code = or_least (depth_at code)
 
 -- the step and the cause of a line
-abbrev pub irq_of : IrqLine → Irq
-irq_of line = record { step = line.step; cause = line.cause }
+abbrev pub interrupt_of : IrqLine → Irq
+interrupt_of line = record { step = line.step; cause = line.cause }
 
 -- those of one task, in order
 abbrev pub irqs_of : ℕ → List IrqLine → List Irq
-irqs_of task lines = map irq_of (lines_of_task task lines)
+irqs_of task lines = map interrupt_of (lines_of_task task lines)
 
 -- the orders of tasks that are numbered from here on
 abbrev pub orders_from : ℕ → List TaskLine → List IrqLine → List Orders

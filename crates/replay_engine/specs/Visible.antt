@@ -1,29 +1,24 @@
 -- What the samples of a schedule show: the transfers that a lone run leaves unreturned (RISC-V
 -- Control Transfer Records 1.0, "RAS Emulation Mode").
 use Rattle.std.specs.Prelude.{◌≡◌, ℕ, ◌+◌, ◌<◌, ◌≤◌, List, map, slice_get, Some}
-use Rattle.std.specs.List.{All}
 use Rattle.ctr_buffer.specs.declared.event.Event.{Event}
 use Rattle.ctr_buffer.specs.Entry.{Entry}
-use Rattle.ctr_buffer.specs.Visible.{AreVisible, IsUnwritten}
+use Rattle.ctr_buffer.specs.Visible.{AreVisible}
 use Rattle.perf_sample.specs.declared.sample.Sample.{Sample}
-use Rattle.rv_hart.specs.Facts.{IsTask}
-use Rattle.rv_hart.specs.Lone.{lone_run}
 use Rattle.rv_hart.specs.Task.{Task}
 use Rattle.sched_text.specs.declared.schedule.Command.{Command}
 use Rattle.sched_text.specs.declared.schedule.Command.TheVariants.{Run, Sample as Sampled, Evict}
 use Rattle.sched_text.specs.declared.schedule.Command.TheVariants.{End}
 use Rattle.replay_engine.specs.declared.plan.Orders.{Orders}
-use Rattle.replay_engine.specs.declared.sampling.Subject.{Subject}
-use Rattle.replay_engine.specs.Samples.{branch_of, sample_of}
-use Rattle.replay_engine.specs.Stands.{own_steps, place_after, scheduled_of}
-use Rattle.replay_engine.specs.Start.{first_present, lone_present}
-use Rattle.replay_engine.specs.View.{Plan, subject_of}
+use Rattle.replay_engine.specs.Samples.{branch_of_entry}
+use Rattle.replay_engine.specs.Stands.{own_steps, place_after}
+use Rattle.replay_engine.specs.View.{Plan}
 
 -- the branches of a sample are the visible entries of a history, in their order
 pub record ShowsVisible (history : List Event) (x : Sample) : Type 0 where
   pub entries : List Entry
   pub visible : AreVisible history entries
-  pub shown : x.branches ≡ map branch_of entries
+  pub shown : x.branches ≡ map branch_of_entry entries
 
 -- a plan raises the interrupts of these tasks
 abbrev pub IsPlanOf : List Task → Plan → Type 0

@@ -34,6 +34,7 @@ pub trait HartSet {
 
     // the harts tell what they hold, and what that is
     ghost tells: { Self → Type 0 };
+
     ghost held: { Self → List HartState };
 
     // engine and harts follow these commands, of a schedule with this header and these images

@@ -1,8 +1,8 @@
-use Rattle.std.proofs.Common.{◌∙◌, replicate, List, ℕ, [], ap, sym, subst}
+use Rattle.std.proofs.Common.{◌∙◌, [], ap, sym, subst}
 use Rattle.replay_engine.specs.Start.{AreMemories, memories}
 use Rattle.sched_text.specs.Header.{IsHeader}
 use Rattle.sched_text.specs.declared.schedule.Header.{Header}
-use Rattle.ctrsim_cli.specs.Demo.{demo_image, demo_lines}
+use Rattle.ctrsim_cli.specs.Demo.{demo_lines}
 use Rattle.ctrsim_cli.proofs.DemoLaws.{demo_is_header, demo_memories, images}
 use Rattle.ctrsim_cli.proofs.demo.begin.Goals as goal
 

@@ -1,7 +1,6 @@
-use Rattle.std.proofs.Common.{◌≡◌, ◌∙◌, sym, ap, subst, List, ℕ, [], refl}
+use Rattle.std.proofs.Common.{◌∙◌, ap, subst, List, ℕ}
 use Rattle.ctr_port.specs.Sink.{GainsPart}
 use Rattle.ctrsim_cli.specs.OnHarts.{line_of}
-use Rattle.ctrsim_cli.specs.declared.counting.Counter.{Counter}
 use Rattle.ctrsim_cli.proofs.DemoLaws.{turns_are}
 use Rattle.ctrsim_cli.proofs.SummaryLaws.{summed}
 use Rattle.ctrsim_cli.proofs.demo.demo.Goals as goal

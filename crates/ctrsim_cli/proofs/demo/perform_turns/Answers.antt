@@ -1,6 +1,6 @@
-use Rattle.std.proofs.Common.{◌≡◌, refl, ℕ, ◌+◌, ◌*◌, List, [], ◌∷◌, ◌++◌, length-append, sym, ap, ◌∙◌, subst, arith}
+use Rattle.std.proofs.Common.{◌≡◌, refl, ℕ, ◌+◌, List, [], ◌∷◌, ◌++◌, length-append, sym, ap, ◌∙◌, subst, arith}
 use Rattle.std.specs.Prelude.{None, Err}
-use Rattle.replay_engine.specs.Refusals.{refusal_after}
+use Rattle.replay_engine.specs.Refusals.{command_refusal}
 use Rattle.sched_text.specs.declared.schedule.Command.{Command}
 use Rattle.ctrsim_cli.specs.Demo.{demo_header, turns, run_of_turn, sample_of_turn}
 use Rattle.ctrsim_cli.specs.Parts.{Made}
@@ -22,7 +22,7 @@ unreachable-requires g c =
     let i = c.loop-turn.turn in
     let read = c.in_default.ensures.read in
     let why = c.in_default.field-0 in
-    let fits : refusal_after plan (turns i) c.run_of.result ≡ None = ap (refusal_after plan (turns i)) c.run_of.ensures ∙ run_allowed (turns i) i in
+    let fits : command_refusal plan (turns i) c.run_of.result ≡ None = ap (command_refusal plan (turns i)) c.run_of.ensures ∙ run_allowed (turns i) i in
     never g.H.HartSet.follows g.H.HartSet.tells g.H.HartSet.held demo_header images (turns i) c.run_of.result read.0 c.loop-turn.harts c.perform.new.engine c.perform.new.harts why fits
     (c.laws.ensures.goes_on demo_header images (turns i) c.loop-turn.engine c.perform.new.engine c.loop-turn.harts c.perform.new.harts c.run_of.result (Err why) read.0 c.loop-turn.invariant.made.going read.1)
     c.in_default.ensures.cause
@@ -44,9 +44,9 @@ unreachable-requires-in_default-perform g c =
     c.loop-turn.counter c.perform.new.sink (turns i) c.run_of.result first.0 c.loop-turn.invariant.made first.1 first.2 in
     let read = c.in_default-perform.ensures.read in
     let why = c.in_default-perform.field-0 in
-    let fits : refusal_after plan cs c.sample_of.result ≡ None =
-    ap (refusal_after plan cs) c.sample_of.ensures
-    ∙ ap (λ (x : Command). refusal_after plan (turns i ++ x ∷ []) (sample_of_turn i)) c.run_of.ensures ∙ sample_allowed (turns i) i in
+    let fits : command_refusal plan cs c.sample_of.result ≡ None =
+    ap (command_refusal plan cs) c.sample_of.ensures
+    ∙ ap (λ (x : Command). command_refusal plan (turns i ++ x ∷ []) (sample_of_turn i)) c.run_of.ensures ∙ sample_allowed (turns i) i in
     never g.H.HartSet.follows g.H.HartSet.tells g.H.HartSet.held demo_header images cs c.sample_of.result read.0 c.perform.new.harts c.perform-in-loop-turn.new.engine c.perform-in-loop-turn.new.harts why fits
     (c.laws.ensures.goes_on demo_header images cs c.perform.new.engine c.perform-in-loop-turn.new.engine c.perform.new.harts c.perform-in-loop-turn.new.harts c.sample_of.result (Err why) read.0 run.going read.1)
     c.in_default-perform.ensures.cause

@@ -1,8 +1,7 @@
-use Rattle.std.proofs.Common.{◌≡◌, inl, inr, refl, ℕ, ◌+◌, [], sym, ◌∙◌, ap, subst, arith}
-use Rattle.std.specs.Prelude.{Ok, Err, Some}
+use Rattle.std.proofs.Common.{◌≡◌, inr, refl, ℕ, ◌+◌, [], sym, ◌∙◌, ap, subst, arith}
+use Rattle.std.specs.Prelude.{Ok}
 use Rattle.ctr_port.specs.InHand.{Of, text_of}
 use Rattle.sched_text.specs.Commands.{command_at}
-use Rattle.sched_text.specs.Reader.{CommandAnswer}
 use Rattle.ctrsim_cli.specs.Parts.{Performed, performing_fault}
 use Rattle.ctrsim_cli.proofs.PerformLaws.{first_commands, counted_one, performed_more}
 use Rattle.ctrsim_cli.proofs.performing.perform_all.Goals as goal

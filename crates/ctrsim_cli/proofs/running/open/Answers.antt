@@ -1,4 +1,4 @@
-use Rattle.std.proofs.Common.{sym, subst, ℕ, List, []}
+use Rattle.std.proofs.Common.{sym, subst, ℕ, List}
 use Rattle.ctr_port.specs.InHand.{text_of, Of}
 use Rattle.sched_text.specs.Header.{HasHeader}
 use Rattle.sched_text.specs.declared.schedule.TaskLine.{TaskLine}

@@ -1,7 +1,6 @@
-use Rattle.std.proofs.Common.{◌≡◌, ◌∙◌, inl, refl, sym, subst, List}
+use Rattle.std.proofs.Common.{◌∙◌, inl, refl, sym, subst}
 use Rattle.std.specs.Prelude.{Some, Err}
 use Rattle.ctr_port.specs.InHand.{text_of, Of}
-use Rattle.rv_hart.specs.Hart.{HartState}
 use Rattle.sched_text.specs.Reader.{Reader}
 use Rattle.ctrsim_cli.specs.Parts.{OpenAnswer, Begins}
 use Rattle.ctrsim_cli.specs.RunEnds.{RunEnds}
