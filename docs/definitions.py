@@ -40,8 +40,11 @@ class File:
                     self.aliases[alias] = (crate_, kind, module)
             elif line and not line[0].isspace() and not line.startswith(("--", "use ", "pub use ", "pub mod", "mod ", "unfolding")):
                 name = START.match(line).group(1)
-                body = self.bodies.setdefault(name, [])
-                body.append(line)
+                if " record " in " " + line or re.match(r"(?:abbrev |unfoldable |pub )*%s :" % re.escape(name), line):
+                    self.bodies.setdefault(name, [])
+                body = self.bodies.get(name, body)
+                if body is not None:
+                    body.append(line)
             elif body is not None and line.strip() and not line.lstrip().startswith("--"):
                 body.append(line)
             if not line.strip() or line.startswith("--"):
@@ -52,9 +55,19 @@ def words(lines):
     return dict.fromkeys(word for line in lines for word in WORD.findall(line))
 
 
+def value_of(crate, name):
+    """What a constant of a crate's code is, as the code has it."""
+    for path in sorted((CRATES / crate / "src").rglob("*.rt")):
+        told = re.search(r"const %s: [^=]+ = ([^;]+);" % name, path.read_text())
+        if told:
+            return told.group(1)
+    raise SystemExit(f"docs/definitions.py: crate {crate} has no constant {name}")
+
+
 def reached():
-    """Each definition once, in the order of the first file that cites it."""
-    files, found, queue = {}, {}, [HEAD]
+    """Each definition once, in the order of the first file that cites it, with its lines; and the constants of the code
+    that they cite."""
+    files, found, constants, queue = {}, {}, {}, [HEAD]
     while queue:
         crate, module, name = queue.pop(0)
         if (crate, module, name) in found:
@@ -71,12 +84,14 @@ def reached():
                 queue.append((crate, module, word))
             elif word in here.imports:
                 crate_, kind, module_, was = here.imports[word]
-                if kind == "specs" and (CRATES / crate_).is_dir() and ".declared." not in "." + module_ and not module_.startswith("declared"):
+                if module_.endswith(".TheConstants"):
+                    constants[crate_, was] = value_of(crate_, was)
+                elif kind == "specs" and (CRATES / crate_).is_dir() and ".declared." not in "." + module_ and not module_.startswith("declared"):
                     queue.append((crate_, module_, was))
-    return found
+    return found, constants
 
 
-def page(found):
+def page(found, constants):
     per_file = {}
     for (crate, module, name), lines in found.items():
         per_file.setdefault((crate, module), []).append((name, lines))
@@ -96,6 +111,13 @@ def page(found):
         for module, names in files:
             path = f"../crates/{crate}/specs/{module.replace('.', '/')}.antt"
             out.append(f"- [{module}]({path}): " + ", ".join(f"`{name}`" for name, _ in names))
+    out += ["", f"## {len(constants)} constants of the code that they cite", ""]
+    out.append("`tools/tests/constants.py` has the value of each from its standard or from the pages.")
+    out.append("")
+    for crate in reversed(order):
+        names = [f"`{name}` {value}" for (owner, name), value in sorted(constants.items()) if owner == crate]
+        if names:
+            out.append(f"- {crate}: " + ", ".join(names))
     return "\n".join(out) + "\n"
 
 
@@ -103,7 +125,7 @@ def main():
     parser = argparse.ArgumentParser(description=__doc__, formatter_class=argparse.RawDescriptionHelpFormatter)
     parser.add_argument("--check", action="store_true", help="compare the page that is there, and write nothing")
     arguments = parser.parse_args()
-    text = page(reached())
+    text = page(*reached())
     if not arguments.check:
         sys.stdout.write(text)
         return 0
