@@ -90,20 +90,6 @@ def content(path):
         raise End(READ, "cannot read %s: %s" % (path or "standard input", error.strerror)) from error
 
 
-def binary():
-    """The path of the program: CTRSIM of the environment, else the one that was built, else the one that was installed,
-    where this module is in PREFIX/libexec/ctrsim/ctrtools."""
-    named = os.environ.get("CTRSIM")
-    if named and not os.path.isfile(named):
-        raise End(PROGRAM, "CTRSIM names no file: %s" % named)
-    places = [named, os.path.join(TOP, "crates", "ctrsim", "out", "ctrsim"),
-              os.path.join(os.path.dirname(TOP), "bin", "ctrsim")]
-    for place in places:
-        if place and os.path.isfile(place):
-            return os.path.abspath(place)
-    raise End(PROGRAM, "no program: `rt ci` builds crates/ctrsim/out/ctrsim, or CTRSIM names one")
-
-
 def flush():
     """Writes out what is held back; a closed standard output holds nothing."""
     if sys.stdout is not None:

@@ -36,10 +36,10 @@ def run(command, given=b"", **more):
 
 def program():
     """The program that tests run; a test that needs it is skipped where there is none."""
-    for place in (os.environ.get("CTRSIM"), os.path.join(TOP, "crates", "ctrsim", "out", "ctrsim")):
+    for place in (os.environ.get("CTRSIM"), os.path.join(TOP, "crates", "ctrsim", "out", "ctrsim"), os.path.join(TOP, "out", "ctrsim")):
         if place and os.path.isfile(place):
             return os.path.abspath(place)
-    raise unittest.SkipTest("no program: CTRSIM names none, and crates/ctrsim/out/ctrsim isn't there")
+    raise unittest.SkipTest("no program: CTRSIM names none, and neither crates/ctrsim/out/ctrsim nor out/ctrsim is there")
 
 
 @contextlib.contextmanager
