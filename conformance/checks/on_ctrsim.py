@@ -46,7 +46,7 @@ class OnCtrsim(shared.Case):
         status, output, _ = shared.conform(folder, "supervisor", "--start", "s", CTRSIM=self.program)
         self.assertEqual(status, 1, output)
         self.assertIn("not ok 6 - supervisor: a call of the firmware leaves no record", output)
-        self.assertIn("# 12 cases, 3 failed", output)
+        self.assertIn("# 13 cases, 3 failed", output)
 
     def test_a_failure_of_each_kind(self):
         # Expectations that are wrong: the only way to see the environment's own failing path on a right implementation.

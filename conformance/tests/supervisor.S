@@ -97,6 +97,28 @@ CASE_S("STE doesn't ask for a record of a trap into M")
         HALT
         END_LIST
 ENDCASE
+// covers: external-bits return-out
+CASE_S("STE doesn't count for a return, nor for a trap from a mode that isn't enabled")
+        START(CTL_STE, 0, 8f)
+        ENTER_U(1f)
+1:      ecall
+8:      LIST
+        END_LIST
+        START(CTL_S | CTL_STE, 0, 8f)
+        ENTER_U(1f)
+1:      ecall
+8:      LIST
+        ROW(90b, 0, TRAPRET)
+        ROW(0, ctr_mtrap, EXCEPTION)
+        END_LIST
+        NEED(HAS_H)
+        NEED_CTL(CTL_STE, CTL_STE)
+        START(CTL_STE, CTL_STE, 8f)
+        ENTER_VU(1f)
+1:      ecall
+8:      LIST
+        END_LIST
+ENDCASE
 // covers: emulation-traps
 CASE_S("under return-stack emulation a call of the firmware leaves the stack")
         START_M(CTL_S | CTL_RASEMU)

@@ -6,11 +6,10 @@ from . import ends
 
 PROVED = os.path.join(ends.TOP, "crates", "ctrsim", "out", "ctrsim")    # what `rt ci` builds
 UNPROVED = os.path.join(ends.TOP, "out", "ctrsim")                      # what tools/build builds
-INSTALLED = os.path.join(os.path.dirname(ends.TOP), "bin", "ctrsim")    # where ctrtools is in PREFIX/libexec/ctrsim
+INSTALLED = os.path.join(ends.TOP, "ctrsim", "bin", "ctrsim")            # where ctrtools is in PREFIX/libexec/ctrsim
 
 # Beside a program, a file with this ending says what it was built from.
 FROM = ".from"
-INSTALLED_FROM = os.path.join(ends.TOP, "ctrsim" + FROM)
 
 
 def binary():
@@ -51,10 +50,9 @@ def newest_source():
 
 def story(path):
     """What is known of a program: whether it is proved, by what it was built and from what."""
-    for beside in [path + FROM] + [INSTALLED_FROM] * (path == os.path.abspath(INSTALLED)):
-        if os.path.isfile(beside):
-            with open(beside, encoding="utf-8") as file:
-                return file.read().strip()
+    if os.path.isfile(path + FROM):
+        with open(path + FROM, encoding="utf-8") as file:
+            return file.read().strip()
     if path != os.path.abspath(PROVED):
         return "nothing is known of how it was built"
     changed = os.path.getmtime(path) < newest_source()

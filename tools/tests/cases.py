@@ -30,7 +30,7 @@ def data(name):
 
 def run(command, given=b"", **more):
     """The status of a command, its output and what it said, both in bytes."""
-    ended = subprocess.run(command, input=given, stdout=subprocess.PIPE, stderr=subprocess.PIPE, timeout=60, **more)
+    ended = subprocess.run(command, input=given, stdout=subprocess.PIPE, stderr=subprocess.PIPE, timeout=120, **more)
     return ended.returncode, ended.stdout, ended.stderr
 
 
