@@ -84,6 +84,19 @@ class Pages(cases.Case):
         for line in told.splitlines():
             self.assertIn(line + "\n", printed)
 
+    def test_ctrtools(self):
+        if missing("clang "):
+            self.skipTest("no clang with lld")
+        self.run_page("profiling-a-c-program.md")
+        printed, _ = self.run_page("ctrtools.md")
+        # place calls itself and attacked, and main calls place once.
+        self.assertRegex(printed, r"(?m)^enter -> main (\d+)$")
+        self.assertRegex(printed, r"(?m)^place -> attacked \d+$")
+        with open(os.path.join(self.folder, "attacked.stacks"), encoding="ascii") as file:
+            stacks = file.read().splitlines()
+        self.assertTrue(stacks)
+        self.assertTrue(all(";place;attacked" in line for line in stacks), stacks)
+
     def test_tools_with_perf(self):
         if missing("clang ") or missing("perf "):
             self.skipTest("no clang with lld, or no perf")
