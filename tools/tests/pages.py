@@ -15,16 +15,42 @@ BOLT = "/usr/lib/llvm-19/bin/llvm-bolt"
 GCC_OF_THE_PAGE = "12.2.0"
 
 
+PICOLIBC = "/usr/lib/picolibc/riscv64-unknown-elf/lib/picolibc.ld"
+
+
 def missing(command):
     """The compiler, or perf, that a block of commands needs and that isn't here, or nothing."""
     for name in COMPILERS + ["perf"]:
         if re.search(r"^%s " % name, command, re.M) and not is_here(name):
             return name
+    if "picolibc.specs" in command and not os.path.exists(PICOLIBC):
+        return "picolibc"
     return ""
 
 
 def is_here(name):
     return bool(shutil.which(name)) and (name != "clang" or bool(shutil.which("ld.lld")))
+
+
+# What needs a library's heap, its thread-local errno, a variable of the program's own in that block, and none behind it.
+OF_A_LIBRARY = b"""
+#include <errno.h>
+#include <limits.h>
+#include <stdlib.h>
+static __thread int mine = 7;
+static __thread int zero;
+int other = 5;
+__attribute__((noinline)) void good(void) { for (;;) { } }
+__attribute__((noinline)) void bad(void) { for (;;) { } }
+int main(void)
+{
+    long most = strtol("99999999999999999999", 0, 10);
+    void *much = malloc(1 << 22), *little = malloc(1000);
+    if (most == LONG_MAX && errno == ENOMEM && !much && little && mine == 7 && zero++ == 0 && other == 5)
+        good();
+    bad();
+}
+"""
 
 
 def is_gcc_of_the_page():
@@ -79,6 +105,12 @@ class Pages(cases.Case):
             self.skipTest("no compiler for RISC-V")
         printed, told = self.run_page("profiling-a-c-program.md")
         self.assertRegex(printed, r"(?m)^enter;main;place;place;place;place;place;place;attacked \d+$")
+        if os.path.exists(PICOLIBC) and is_here(COMPILERS[0]):
+            with open(os.path.join(self.folder, "sorted.stacks"), encoding="ascii") as file:
+                stacks = file.read()
+            self.assertIn("enter;main;qsort;by_count ", stacks)
+            self.assertIn("enter;main;snprintf;", stacks)
+            self.assertNotIn("trap", stacks)
         if not is_gcc_of_the_page():
             self.skipTest("what is printed isn't compared, since it is that of gcc %s" % GCC_OF_THE_PAGE)
         for line in told.splitlines():
@@ -171,6 +203,17 @@ class Programs(cases.Case):
         # leaf is entered by the tail call of tail alone, if the compiler made one; main calls it otherwise.
         self.assertTrue({"enter;main;tail;leaf", "enter;main;leaf"} & set(stacks), stacks)
         self.assertFalse([stack for stack in stacks if "[unknown]" in stack or "trap" in stack])
+
+    def test_a_library(self):
+        if missing("riscv64-unknown-elf-gcc ") or not os.path.exists(PICOLIBC):
+            self.skipTest("no gcc for RISC-V, or no picolibc")
+        elf, start = os.path.join(self.folder, "program"), os.path.join(cases.TOOLS, "start")
+        subprocess.run(["riscv64-unknown-elf-gcc", "--specs=picolibc.specs", *COMMANDS["riscv64-unknown-elf-gcc"], "-mabi=lp64",
+                        "-mcmodel=medany", "-O2", "-nostartfiles", "-static", "-DLIBC", "-T", os.path.join(start, "link.ld"),
+                        os.path.join(start, "start.S"), self.file("program.c", OF_A_LIBRARY), "-o", elf], check=True)
+        with cases.environment(CTRSIM=cases.program()):
+            status, _, said = cases.tool("record", elf, "--until", "good", "-o", os.path.join(self.folder, "samples"))
+        self.assertEqual(status, 0, said)
 
     def test_gcc_in_m(self):
         self.profiled("riscv64-unknown-elf-gcc", "M")
