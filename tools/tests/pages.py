@@ -137,14 +137,31 @@ class Pages(cases.Case):
         self.assertRegex(printed, r"(?m)^task0;enter;main;place;place;place;place;place;place;attacked \d+$")
 
     def test_from_samples_to_bolt(self):
-        if missing("perf ") or not os.path.exists(BOLT) or not is_gcc_of_the_page():
-            self.skipTest("no perf, no bolt-19, or no gcc %s for RISC-V" % GCC_OF_THE_PAGE)
+        if missing("perf ") or not os.path.exists(BOLT) or not shutil.which("llvm-profgen-19") or not is_gcc_of_the_page():
+            self.skipTest("no perf, no bolt-19, no llvm-19, or no gcc %s for RISC-V" % GCC_OF_THE_PAGE)
         blocks = [text for kind, text in self.blocks("from-samples-to-bolt.md") if kind == "sh"]
         with cases.environment(CTRSIM=cases.program(), TOOLS=cases.TOOLS):
             status, output, said = cases.run(["bash", "-e", "-o", "pipefail", "-c", "\n".join(blocks)], cwd=self.folder)
         self.assertEqual(status, 0, said)
+        self.profgen_warns_of_jumps()
         # The steps before and after, as the page has them.
         self.assertEqual([line for line in output.decode().splitlines() if re.fullmatch(r"\d+", line)][:2], ["88900", "85500"])
+
+    def profgen_warns_of_jumps(self):
+        """The ranges of which llvm-profgen says that they don't end at an instruction are those that end at a JAL or JALR."""
+        status, output, said = cases.run(["llvm-profgen-19", "--perfscript=words.text", "--binary=words.debug", "--format=text",
+                                          "--output=again.prof", "--show-detailed-warning"], cwd=self.folder)
+        self.assertEqual(status, 0, said)
+        pair = r"\[([0-9a-f]+),([0-9a-f]+)\]: Range is not on instruction boundary"
+        warned = {(int(start, 16), int(end, 16)) for start, end in re.findall(pair, (output + said).decode())}
+        listing = cases.run(["riscv64-unknown-elf-objdump", "-d", "-M", "no-aliases", "words.debug"], cwd=self.folder)[1].decode()
+        names = {int(at, 16): name for at, name in re.findall(r"^\s*([0-9a-f]+):\t[0-9a-f]+\s+(\S+)", listing, re.M)}
+        with open(os.path.join(self.folder, "words.text"), encoding="utf-8") as file:
+            lines = [[tuple(int(word, 16) for word in entry.split("/")[:2]) for entry in line.split()[1:]]
+                     for line in file if not line.startswith("PERF")]
+        ranges = {(older[1], younger[0]) for branches in lines for younger, older in zip(branches, branches[1:])}
+        self.assertEqual(warned, {found for found in ranges if names[found[1]] in ("jal", "jalr")})
+        self.assertTrue(ranges - warned and warned)
 
     def test_many_runs(self):
         if missing("clang "):
