@@ -87,7 +87,7 @@ class Pages(cases.Case):
         """Every link of every page that isn't to another site leads to a file or a folder."""
         pages, missing = 0, []
         for folder, folders, names in os.walk(cases.TOP):
-            folders[:] = [name for name in folders if name not in ("out", ".git", "crates")]
+            folders[:] = [name for name in folders if name not in ("out", ".git", "crates", "__pycache__")]
             for name in names:
                 if name.endswith(".md"):
                     pages += 1
@@ -115,6 +115,33 @@ class Pages(cases.Case):
             self.skipTest("what is printed isn't compared, since it is that of gcc %s" % GCC_OF_THE_PAGE)
         for line in told.splitlines():
             self.assertIn(line + "\n", printed)
+
+    def test_in_your_ci(self):
+        if missing("clang "):
+            self.skipTest("no clang with lld")
+        printed, _ = self.run_page("in-your-ci.md")
+        self.assertIn("at a_three+0x4 the records show the 3 branches that they should\n", printed)
+        # The steps of the workflow itself, but for the checkouts and the compiler; and each mistake of the example.
+        with open(os.path.join(cases.TOP, "docs", "ci", "workflow.yml"), encoding="utf-8") as file:
+            steps = re.findall(r"^        run: \|\n((?:          .*\n)+)", file.read(), re.M)
+        self.assertEqual(len(steps), 3)
+        if not shutil.which("rustc"):
+            steps[0] = "cp %s simulator\n" % cases.program()
+        words = {"CTRSIM_AT": cases.TOP, "SWITCH": "switch"}
+        status, output, said = self.steps_of("".join(steps), words)
+        self.assertEqual((status, output.splitlines()[-1:]), (0, [b"at a_three+0x4 the records show the 3 branches that they should"]),
+                         said)
+        for mistake, shown in (("NO_RECORDS", b"b_four b_five call"), ("VALID_ONLY", b"b_three b_four call"),
+                               ("POINTER_LAST", b"a_main a_one call\n  a_two a_three ind_call"),
+                               ("NO_TYPES", b"a_two a_three call"), ("DEPTH_LAST", b"the records show\n  \nand not")):
+            status, output, said = self.steps_of("".join(steps[1:]), dict(words, FLAGS="-D" + mistake))
+            self.assertEqual(status, 1, mistake)
+            self.assertIn(shown, said, mistake)
+
+    def steps_of(self, steps, words):
+        """Runs steps of the workflow in the folder that the page's commands made."""
+        with cases.environment(**words):
+            return cases.run(["bash", "-e", "-c", steps], cwd=os.path.join(self.folder, "ci"))
 
     def test_ctrtools(self):
         if missing("clang "):
