@@ -13,6 +13,7 @@ import cases
 COMPILERS = ["riscv64-unknown-elf-gcc", "clang"]
 BOLT = "/usr/lib/llvm-19/bin/llvm-bolt"
 GCC_OF_THE_PAGE = "12.2.0"
+FLAMEGRAPH = "/usr/share/perl5/Devel/NYTProf/flamegraph.pl"
 
 
 PICOLIBC = "/usr/lib/picolibc/riscv64-unknown-elf/lib/picolibc.ld"
@@ -155,6 +156,24 @@ class Pages(cases.Case):
             stacks = file.read().splitlines()
         self.assertTrue(stacks)
         self.assertTrue(all(";place;attacked" in line for line in stacks), stacks)
+
+    def test_flame_graphs(self):
+        if missing("clang ") and missing("riscv64-unknown-elf-gcc "):
+            self.skipTest("no compiler for RISC-V")
+        if not os.path.exists(FLAMEGRAPH):
+            self.skipTest("no flamegraph.pl")
+        self.run_page("profiling-a-c-program.md")
+        self.run_page("flame-graphs.md")
+        with open(os.path.join(self.folder, "flame.svg"), encoding="utf-8") as file:
+            made = file.read()
+        for name in ("place", "attacked", "main"):
+            self.assertRegex(made, r"<title>%s \(\d+ samples" % name)
+        if is_gcc_of_the_page():
+            # The picture of the page, whose boxes may stand in another order.
+            with open(os.path.join(cases.TOP, "docs", "flame-graph.svg"), encoding="utf-8") as file:
+                boxes = re.findall(r"<title>.*", file.read())
+            self.assertEqual(sorted(re.findall(r"<title>.*", made)), sorted(boxes))
+            self.assertGreater(len(boxes), 10)
 
     def test_tools_with_perf(self):
         if missing("clang ") or missing("perf "):
