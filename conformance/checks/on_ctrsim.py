@@ -1,10 +1,12 @@
 """All tests on ctrsim: the stored output, skips too, and what a failure looks like."""
 import os
+import shutil
 
 import shared
 from ctrconform import building
 
 EXPECTED = os.path.join(shared.HERE, "expected", "ctrsim.tap")
+EXPECTED_FROM_S = os.path.join(shared.HERE, "expected", "ctrsim-s.tap")
 FAILING = os.path.join(shared.HERE, "checks", "failing.S")
 
 # What our harts have: no case may be skipped for want of it.
@@ -23,6 +25,28 @@ class OnCtrsim(shared.Case):
         self.assertEqual((status, said), (0, ""), output[-2000:])
         with open(EXPECTED, encoding="utf-8") as file:
             self.assertEqual(output, file.read())
+
+    def test_all_tests_from_s(self):
+        # MTE and the trap-enable bits that go with it are of M.
+        status, output, said = shared.conform("ctrsim", "--start", "s", "--require", HAVE.replace("mte,", ""), CTRSIM=self.program)
+        self.assertEqual((status, said), (0, ""), output[-2000:])
+        with open(EXPECTED_FROM_S, encoding="utf-8") as file:
+            self.assertEqual(output, file.read())
+
+    def test_firmware_of_a_target(self):
+        # A target's own M code takes the place of that in env/: this one leaves the records to M, as mstateen0 may.
+        folder = os.path.join(self.folder, "target")
+        shutil.copytree(os.path.join(shared.HERE, "target", "ctrsim"), folder)
+        with open(os.path.join(shared.HERE, "env", "ctr_firmware.S"), encoding="utf-8") as file:
+            text = file.read()
+        self.assertIn("        li      a0, -2\n", text)
+        self.file("target/firmware.S", text.replace("        li      a0, -2\n", "        csrwi   0x14f, 9\n"))
+        os.remove(os.path.join(folder, "run_all"))
+        self.file("target/run", "#!/bin/sh\nexec %s \"$@\"\n" % os.path.join(shared.HERE, "target", "ctrsim", "run"), 0o755)
+        status, output, _ = shared.conform(folder, "supervisor", "--start", "s", CTRSIM=self.program)
+        self.assertEqual(status, 1, output)
+        self.assertIn("not ok 6 - supervisor: a call of the firmware leaves no record", output)
+        self.assertIn("# 13 cases, 3 failed", output)
 
     def test_a_failure_of_each_kind(self):
         # Expectations that are wrong: the only way to see the environment's own failing path on a right implementation.

@@ -105,6 +105,8 @@ class Outcomes(shared.Case):
         self.run_with([])
         self.refused(shared.conform("no-such-target"), "no target no-such-target; there are ctrsim, qemu-spike")
         self.refused(shared.conform(place, "no_such_test"), "no test no_such_test; there are access")
+        self.refused(shared.conform(place, "supervisor"), "the test supervisor has no case that starts in M")
+        self.refused(shared.conform(place, "access", "--start", "u"), "invalid choice")
         self.refused(shared.conform(place, self.test, "--require", "everything"), "--require knows no word everything")
         self.refused(shared.conform(place, self.test, "--built"), "no --keep is given")
         self.refused(shared.conform(place, self.test, "--keep", self.folder, "--built"), "no program ")

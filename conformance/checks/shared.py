@@ -9,15 +9,15 @@ from ctrconform import block, building
 
 HERE = building.HERE
 CONFORM = os.path.join(HERE, "conform")
-BUILT = os.path.join(HERE, "..", "crates", "ctrsim", "out", "ctrsim")
+BUILT = [os.path.join(HERE, "..", *parts, "out", "ctrsim") for parts in (("crates", "ctrsim"), ())]
 
 
 def program():
     """The program that tests run; a test that needs it is skipped where there is none."""
-    for place in (os.environ.get("CTRSIM"), BUILT):
+    for place in (os.environ.get("CTRSIM"), *BUILT):
         if place and os.path.isfile(place):
             return os.path.abspath(place)
-    raise unittest.SkipTest("no program: CTRSIM names none, and crates/ctrsim/out/ctrsim isn't there")
+    raise unittest.SkipTest("no program: CTRSIM names none, and neither crates/ctrsim/out/ctrsim nor out/ctrsim is there")
 
 
 def needs_compiler():

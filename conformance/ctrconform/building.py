@@ -41,11 +41,20 @@ def name_of(test):
     return os.path.basename(source_of(test))[:-2]
 
 
-def build(test, place, command, folder):
-    """Builds a test for the target of a folder. Answers the path of the program, and what the compiler said where there
-    is none."""
+def start_words(place, start):
+    """What the compiler is told of the mode that the cases start in: from S there is M code too, the target's own or that of
+    env/."""
+    if start == "m":
+        return []
+    own = os.path.join(place, "firmware.S")
+    return ["-DSTART_S", own if os.path.exists(own) else os.path.join(HERE, "env", "ctr_firmware.S")]
+
+
+def build(test, place, command, folder, start="m"):
+    """Builds a test for the target of a folder, to start in M or in S. Answers the path of the program, and what the compiler
+    said where there is none."""
     elf = os.path.join(folder, name_of(test) + ".elf")
-    words = shlex.split(COMPILERS.get(command, command)) + ALL + [
+    words = shlex.split(COMPILERS.get(command, command)) + ALL + start_words(place, start) + [
         "-I", os.path.join(HERE, "env"), "-T", os.path.join(place, "link.ld"), os.path.join(HERE, "env", "ctr_env.S"),
         os.path.join(place, "target.S"), source_of(test), "-o", elf]
     try:

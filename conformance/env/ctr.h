@@ -20,11 +20,19 @@
 // Recording begins with the last instruction of START, and nothing between there and the case's own transfers makes
 // one. At label 8 the hart is in M and recording is off. Numeric labels from 90 on belong to the macros.
 //
+// A suite starts in M, or in S (START_S): as Ssctr alone is there, and as a supervisor or a guest sees it. The mode where
+// the environment is at home is M or S then, and what the names of M stand for below is the home's: mctrctl, mstatus, mie,
+// CTL_M and so on are sctrctl, sstatus, sie and CTL_S from S. CASE is a case that needs M; CASE_ALL one that says the same of
+// either home; CASE_OR has a name for M and one for S; and CASE_S is there from S alone.
+//
 // Registers: s6 to s11 belong to the environment. A case has all others until it ends, but a macro changes t0 to t6
-// and a0 to a7.
+// and a0 to a7, and END_LIST s0 to s3 too.
 
 // Control transfer records, and the registers through which the entries are reached.
-#define mctrctl    0x34e
+#define MCTRCTL    0x34e                /* by its number, whatever the home is */
+#ifndef START_S
+#define mctrctl    MCTRCTL
+#endif
 #define sctrctl    0x14e
 #define vsctrctl   0x24e
 #define sctrstatus 0x14f
@@ -52,6 +60,7 @@
 #define hstatus    0x600
 #define hedeleg    0x602
 #define hideleg    0x603
+#define hie        0x604
 #define hvip       0x645
 #define vsstatus   0x200
 #define vsie       0x204
@@ -62,10 +71,17 @@
 // Fields of mctrctl, sctrctl and vsctrctl. In vsctrctl U, S and STE are those of VU and VS.
 #define CTL_U          (1 << 0)
 #define CTL_S          (1 << 1)
+#ifndef START_S
 #define CTL_M          (1 << 2)
+#define CTL_MTE        (1 << 9)
+#define CTL_BETWEEN    CTL_S            /* of the mode between U and the home */
+#else
+#define CTL_M          CTL_S
+#define CTL_MTE        0
+#define CTL_BETWEEN    0
+#endif
 #define CTL_RASEMU     (1 << 7)
 #define CTL_STE        (1 << 8)
-#define CTL_MTE        (1 << 9)
 #define CTL_BPFRZ      (1 << 11)
 #define CTL_LCOFIFRZ   (1 << 12)
 #define CTL_EXCINH     (1 << 33)
@@ -84,8 +100,8 @@
 #define CTL_VU         CTL_U
 #define CTL_VS         CTL_S
 #define CTL_JUMPS      0xff3000000000   /* the filter bits of branches and jumps */
-#define CTL_KNOWN_M    0x0000ff3e00001b87
 #define CTL_KNOWN_S    0x0000ff3e00001983
+#define CTL_KNOWN_M    (CTL_KNOWN_S | CTL_M | CTL_MTE)
 #define CTL_CUSTOM     0xf000000000000000
 
 // Fields of sctrstatus and of the data word of an entry.
@@ -129,6 +145,29 @@
 #define ECALL_VS   10
 #define VIRTUAL    22
 #define NO_TRAP    -1
+
+// What the home's registers are.
+#ifndef START_S
+#define STATUS_HOME_IE   STATUS_MIE
+#define STATUS_HOME_PIE  (1 << 7)
+#define STATUS_HOME_PP   STATUS_MPP
+#define guest_ie         mie            /* enables interrupts of VS too */
+#define EXTERNAL_BITS    7              /* the trap-enable bits within reach: STE, MTE, vsctrctl.STE */
+#else
+#define STATUS_HOME_IE   STATUS_SIE
+#define STATUS_HOME_PIE  (1 << 5)
+#define STATUS_HOME_PP   STATUS_SPP
+#define guest_ie         hie
+#define EXTERNAL_BITS    5
+#define mctrctl  sctrctl
+#define mstatus  sstatus
+#define mie      sie
+#define mip      sip
+#define mtvec    stvec
+#define mepc     sepc
+#define mcause   scause
+#define mscratch sscratch
+#endif
 
 // The block of results, in bytes from begin_signature; the words are of 64 bits.
 #define MAGIC       0x3154534554525443  /* "CTRTEST1" */
@@ -190,15 +229,27 @@
 ctr_tests: la t0, ctr_home; sd ra, 0(t0)
 #define ENDTESTS la t0, ctr_home; ld ra, 0(t0); ret
 
-#define CASE(name) \
+#define CASE_HERE(name) .if 1; \
         .pushsection .ctr.cases, "", @progbits; .asciz name; .popsection; \
         la a0, 99f; call ctr_case_begin
-#define ENDCASE  99: call ctr_case_end
+#define ENDCASE  99: call ctr_case_end; .endif
+#ifndef START_S
+#define CASE(name)           CASE_HERE(name)
+#define CASE_ALL(name)       CASE_HERE(name)
+#define CASE_OR(name, other) CASE_HERE(name)
+#define CASE_S(name)         .if 0
+#else
+#define CASE(name)           .if 0
+#define CASE_ALL(name)       CASE_HERE(name)
+#define CASE_OR(name, other) CASE_HERE(other)
+#define CASE_S(name)         CASE_HERE(name)
+#endif
 
 // Ends the case as skipped where something optional is missing.
 #define NEED(features)     li a0, features; call ctr_need
 #define NEED_CTL(m, vs)    li a0, m; li a1, vs; call ctr_need_controls
-// Delegation of exceptions and of interrupts; skips where the registers don't hold the bits.
+// Delegation of exceptions and of interrupts; skips where the registers don't hold the bits. From S the first word of each
+// is M's business, and the firmware has delegated all to S.
 #define DELEGATE(med, hed) li a0, med; li a1, hed; call ctr_delegate
 #define DELEGATE_INT(mid, hid) li a0, mid; li a1, hid; call ctr_delegate_int
 // The greatest depth that there is; afterwards s4 is its number of entries.
@@ -218,10 +269,15 @@ ctr_tests: la t0, ctr_home; sd ra, 0(t0)
 // Ends recording, in M.
 #define HALT     csrci mctrctl, CTL_M | CTL_S | CTL_U
 
-// Returns into a mode, in M; label 90 is the return.
-#define ENTER_M(label)  la t0, label; csrw mepc, t0; li t0, STATUS_MPP; csrs mstatus, t0; 90: mret
+// Returns into a mode, at home; label 90 is the return. ENTER_S is for M alone.
+#ifndef START_S
+#define HOME_RETURN mret
+#else
+#define HOME_RETURN sret
+#endif
+#define ENTER_M(label)  la t0, label; csrw mepc, t0; li t0, STATUS_HOME_PP; csrs mstatus, t0; 90: HOME_RETURN
 #define ENTER_S(label)  la t0, label; csrw mepc, t0; li t0, STATUS_MPP; csrc mstatus, t0; li t0, 1 << 11; csrs mstatus, t0; 90: mret
-#define ENTER_U(label)  la t0, label; csrw mepc, t0; li t0, STATUS_MPP; csrc mstatus, t0; 90: mret
+#define ENTER_U(label)  la t0, label; csrw mepc, t0; li t0, STATUS_HOME_PP; csrc mstatus, t0; 90: HOME_RETURN
 #define ENTER_VS(label) la t0, label; csrw sepc, t0; li t0, STATUS_SPP; csrs mstatus, t0; li t0, STATUS_SPV; csrs hstatus, t0; 90: sret
 #define ENTER_VU(label) la t0, label; csrw sepc, t0; li t0, STATUS_SPP; csrc mstatus, t0; li t0, STATUS_SPV; csrs hstatus, t0; 90: sret
 // The same in HS or VS; label 92 is the return.

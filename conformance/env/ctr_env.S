@@ -1,7 +1,8 @@
-// What the cases stand on: start in M, probing, traps, the beginning and the end of a case, and comparison. All of it but
-// the handlers runs in M, and with recording off but inside of a case.
+// What the cases stand on: the start, probing, traps, the beginning and the end of a case, and comparison. All of it but
+// the handlers runs at home, in M or in S (ctr.h), and with recording off but inside of a case.
 #include "ctr.h"
 
+#ifndef START_S
         .section .text.start, "ax"
         .globl  _start
 _start:
@@ -10,6 +11,14 @@ _start:
         la      t0, ctr_probe_trap
         csrw    mtvec, t0
         call    target_init
+#else
+        .text
+        .globl  ctr_start
+ctr_start:                              // in S; a0 is misa, or 0 where nothing is known of it
+        mv      s0, a0
+        la      t0, ctr_probe_trap
+        csrw    mtvec, t0
+#endif
         call    ctr_probe
         la      t0, begin_signature
         li      t1, MAGIC
@@ -20,9 +29,11 @@ _start:
         sd      t0, R_STATE(a0)
         la      a1, end_signature
         j       target_report
+#ifndef START_S
 park:
         wfi
         j       park
+#endif
 
         .text
 // ---------------------------------------------------------------- probing
@@ -35,14 +46,16 @@ ctr_probe_trap:
         csrr    t6, mepc
         addi    t6, t6, 4
         csrw    mepc, t6
-        mret
+        HOME_RETURN
 
 // s0 gathers the features, s2 and s3 what mctrctl and vsctrctl hold.
 ctr_probe:
         mv      s1, ra
+        mv      s4, s0
         li      s0, 0
         li      s2, 0
         li      s3, 0
+#ifndef START_S
         li      t0, -1                  // where there is memory protection, S and U may reach all memory
         PROBE(csrw pmpaddr0, t0)
         li      t0, 0x1f
@@ -59,12 +72,28 @@ ctr_probe:
         or      s0, s0, t2
         PROBE(csrs hstateen0, t0)
 1:
+#endif
         PROBE(csrr t0, hstatus)
         bgez    a1, 1f
         li      t2, HAS_H
         or      s0, s0, t2
+#ifdef START_S
+        li      t0, 0x41 << 54          // that of M is open; here it is that of the hypervisor
+        PROBE(csrs hstateen0, t0)
+        bgez    a1, 1f
+        csrr    t1, hstateen0
+        li      t2, 1 << 54
+        and     t1, t1, t2
+        beqz    t1, 1f
+        li      t2, HAS_STATEEN
+        or      s0, s0, t2
+#endif
 1:
+#ifndef START_S
         csrr    t0, misa                // it may read 0, and then tells nothing
+#else
+        mv      t0, s4
+#endif
         beqz    t0, 1f
         andi    t1, t0, 1 << 2
         li      t2, HAS_GRAIN
@@ -95,6 +124,7 @@ ctr_probe:
         csrw    vsctrctl, t0
         csrr    s3, vsctrctl
         csrw    vsctrctl, x0
+#ifndef START_S
         li      t0, STATUS_MPV
         csrs    mstatus, t0
         csrr    t1, mstatus
@@ -103,6 +133,7 @@ ctr_probe:
         beqz    t1, 1f
         li      t2, HAS_MPV
         or      s0, s0, t2
+#endif
 1:
         li      t0, 4                   // the depths, from the greatest down, so that t3 is the least in the end
         li      t3, -1
@@ -155,10 +186,14 @@ ctr_probe:
         or      s0, s0, t2
         andi    t1, s0, HAS_H
         beqz    t1, 9f
+#ifndef START_S
         csrw    mideleg, t0
+#endif
         csrw    hideleg, t0
         csrr    t1, hideleg
+#ifndef START_S
         csrw    mideleg, x0
+#endif
         csrw    hideleg, x0
         and     t1, t1, t0
         beqz    t1, 9f
@@ -175,9 +210,9 @@ ctr_probe:
 
 // ---------------------------------------------------------------- traps
         .globl  ctr_mtrap, ctr_strap, ctr_vstrap, ctr_unexpected
-// Into M. Recording ends by the first instruction. s10 is sctrstatus and s11 mctrctl as the trap found them, a0 mcause and
-// a1 mepc. It goes on in M by MRET with MPIE clear: interrupts stay off, since on most implementations one that was taken
-// is still pending, and mstatus.MPV is cleared where no CSR instruction can clear it.
+// Into the home. Recording ends by the first instruction. s10 is sctrstatus and s11 mctrctl as the trap found them, a0 mcause
+// and a1 mepc. It goes on there by a return with MPIE clear: interrupts stay off, since on most implementations one that was
+// taken is still pending, and mstatus.MPV is cleared where no CSR instruction can clear it. In S hstatus.SPV is cleared first.
         .balign 64
 ctr_mtrap:
         csrrci  s11, mctrctl, CTL_M | CTL_S | CTL_U
@@ -190,17 +225,26 @@ ctr_mtrap:
         csrw    mepc, t1
         la      t1, ctr_unexpected      // a case waits for one trap at a time
         sd      t1, 0(t0)
-        li      t0, 1 << 7              // MPIE
+#ifdef START_S
+        la      t0, begin_signature
+        ld      t0, R_FEATURES(t0)
+        andi    t0, t0, HAS_H
+        beqz    t0, 2f
+        li      t0, STATUS_SPV
+        csrc    hstatus, t0
+2:
+#endif
+        li      t0, STATUS_HOME_PIE
         csrc    mstatus, t0
-        li      t0, STATUS_MPP
+        li      t0, STATUS_HOME_PP
         csrs    mstatus, t0
-        mret
+        HOME_RETURN
 1:                                      // of TRY
         csrr    a1, mcause
         csrr    s6, mepc
         addi    s6, s6, 4
         csrw    mepc, s6
-        mret
+        HOME_RETURN
 
 // Into HS and VS: s8 or s9 is sctrstatus as the trap found it, recording is ended, and an ECALL goes on to M.
         .balign 64
@@ -251,14 +295,20 @@ ctr_case_begin:
         slli    t1, t1, 4
         add     t0, t0, t1
         sd      x0, R_CASE(t0)          // no outcome yet
+#ifndef START_S
         csrw    medeleg, x0
         csrw    mideleg, x0
+#endif
         csrw    mie, x0
         li      t0, LCOFI | SEI | STI | SSI
         csrc    mip, t0
-        li      t0, 0x19aa              // MIE, SIE, MPIE, SPIE, SPP, MPP
+        li      t0, STATUS_SIE | STATUS_HOME_IE | 1 << 5 | STATUS_HOME_PIE | STATUS_SPP | STATUS_HOME_PP
         csrc    mstatus, t0
+#ifndef START_S
         la      t0, ctr_strap
+#else
+        la      t0, ctr_mtrap
+#endif
         csrw    stvec, t0
         la      t0, begin_signature
         ld      t1, R_FEATURES(t0)
@@ -271,6 +321,9 @@ ctr_case_begin:
         csrw    hedeleg, x0
         csrw    hideleg, x0
         csrw    hvip, x0
+#ifdef START_S
+        csrw    hie, x0
+#endif
         csrw    vsstatus, x0
         li      t0, STATUS_SPV | 1 << 8 // and SPVP
         csrc    hstatus, t0
@@ -359,13 +412,17 @@ ctr_need_controls:                      // a0: bits of mctrctl, a1: bits of vsct
 #define HOLDS(csr, reg, reason) \
         csrw csr, reg; csrr t0, csr; not t0, t0; and t0, t0, reg; li t1, reason; bnez t0, 9f
 ctr_delegate:
+#ifndef START_S
         HOLDS(medeleg, a0, SKIP_MEDELEG)
+#endif
         beqz    a1, 1f
         HOLDS(hedeleg, a1, SKIP_HEDELEG)
 1:
         ret
 ctr_delegate_int:
+#ifndef START_S
         HOLDS(mideleg, a0, SKIP_MIDELEG)
+#endif
         beqz    a1, 1f
         HOLDS(hideleg, a1, SKIP_HIDELEG)
 1:

@@ -19,7 +19,7 @@
         try2    sireg
         try2    sireg2
         try2    sireg3
-        try2    mctrctl
+        try2    MCTRCTL
         try2    vsctrctl
         try2    vsiselect
         try2    vsireg
@@ -72,7 +72,7 @@ CASE("S reaches those of VS")
 8:      EXPECT(8, 5, -1)
 ENDCASE
 // covers: access-user clear-modes
-CASE("U reaches none: illegal instructions")
+CASE_ALL("U reaches none: illegal instructions")
         PREPARE(8f)
         ENTER_U(1f)
 1:      try_all
@@ -81,7 +81,7 @@ CASE("U reaches none: illegal instructions")
         EXPECT_CLEAR(2)
 ENDCASE
 // covers: access-guest clear-modes
-CASE("VS reaches sctrctl, sctrstatus and the entries")
+CASE_ALL("VS reaches sctrctl, sctrstatus and the entries")
         NEED(HAS_H)
         PREPARE(8f)
         ENTER_VS(1f)
@@ -91,7 +91,7 @@ CASE("VS reaches sctrctl, sctrstatus and the entries")
         EXPECT(3, 4, -1)
         EXPECT_CLEAR(-1)
 ENDCASE
-CASE("in VS sctrdepth is a virtual instruction")
+CASE_ALL("in VS sctrdepth is a virtual instruction")
         NEED(HAS_H)
         PREPARE(8f)
         ENTER_VS(1f)
@@ -99,7 +99,7 @@ CASE("in VS sctrdepth is a virtual instruction")
         ecall
 8:      EXPECT(2, 1, 22)
 ENDCASE
-CASE("in VS mctrctl is illegal, and the numbers of VS are virtual instructions")
+CASE_ALL("in VS mctrctl is illegal, and the numbers of VS are virtual instructions")
         NEED(HAS_H)
         PREPARE(8f)
         ENTER_VS(1f)
@@ -109,7 +109,7 @@ CASE("in VS mctrctl is illegal, and the numbers of VS are virtual instructions")
         EXPECT(8, 5, 22)
 ENDCASE
 // covers: access-guest-user clear-modes
-CASE("VU reaches none: virtual instructions, mctrctl illegal")
+CASE_ALL("VU reaches none: virtual instructions, mctrctl illegal")
         NEED(HAS_H)
         PREPARE(8f)
         ENTER_VU(1f)
@@ -121,7 +121,7 @@ CASE("VU reaches none: virtual instructions, mctrctl illegal")
         EXPECT_CLEAR(22)
 ENDCASE
 // covers: access-refused
-CASE("a refused access changes nothing")
+CASE_ALL("a refused access changes nothing")
         START(CTL_BPFRZ, 0, 8f)
         csrwi   sctrstatus, 9
         ENTER_U(1f)
@@ -129,7 +129,7 @@ CASE("a refused access changes nothing")
         TRY(csrw sctrctl, t0)
         TRY(csrw sctrstatus, t0)
         TRY(csrw sctrdepth, x0)
-        TRY(csrw mctrctl, t0)
+        TRY(csrw MCTRCTL, t0)
         ecall
 8:      CHECK_EQ(s11, CTL_BPFRZ)
         CHECK_CSR(sctrstatus, 9)
@@ -138,7 +138,7 @@ CASE("a refused access changes nothing")
         csrr    t0, sctrdepth
         CHECK_REGS(t0, s4)
 ENDCASE
-CASE("a refused access in VS changes nothing")
+CASE_ALL("a refused access in VS changes nothing")
         NEED(HAS_H)
         START(CTL_BPFRZ, CTL_BPFRZ, 8f)
         csrwi   sctrstatus, 9
@@ -147,7 +147,7 @@ CASE("a refused access in VS changes nothing")
         ENTER_VS(1f)
 1:      li      t0, -1
         TRY(csrw sctrdepth, t0)
-        TRY(csrw mctrctl, t0)
+        TRY(csrw MCTRCTL, t0)
         TRY(csrw vsctrctl, t0)
         TRY(csrw vsiselect, x0)
         ecall
@@ -160,7 +160,7 @@ CASE("a refused access in VS changes nothing")
         csrr    t0, sctrdepth
         CHECK_REGS(t0, s4)
 ENDCASE
-CASE("a refused SCTRCLR leaves the entries")
+CASE_ALL("a refused SCTRCLR leaves the entries")
         START(0, 0, 8f)
         li      t0, ENTRY
         csrw    siselect, t0

@@ -24,7 +24,7 @@
 
 TESTS(15000)
 // covers: type-branch filter-not-taken
-CASE("taken branches are recorded, others aren't")
+CASE_ALL("taken branches are recorded, others aren't")
         START_M(CTL_M)
         LIST
         branches
@@ -32,7 +32,7 @@ CASE("taken branches are recorded, others aren't")
         END_LIST_WITHOUT(1 << NOTTAKEN)
 ENDCASE
 // covers: branch-target filter-not-taken
-CASE("NTBREN records branches that aren't taken too")
+CASE_ALL("NTBREN records branches that aren't taken too")
         START_M(CTL_M | CTL_NTBREN)
         LIST
         branches
@@ -40,14 +40,14 @@ CASE("NTBREN records branches that aren't taken too")
         END_LIST
 ENDCASE
 // covers: filter-own
-CASE("TKBRINH leaves taken branches out")
+CASE_ALL("TKBRINH leaves taken branches out")
         START_M(CTL_M | CTL_TKBRINH)
         LIST
         branches
         HALT
         END_LIST_WITHOUT(1 << TAKEN | 1 << NOTTAKEN)
 ENDCASE
-CASE("NTBREN and TKBRINH record branches that aren't taken alone")
+CASE_ALL("NTBREN and TKBRINH record branches that aren't taken alone")
         START_M(CTL_M | CTL_NTBREN | CTL_TKBRINH)
         LIST
         branches
@@ -55,7 +55,7 @@ CASE("NTBREN and TKBRINH record branches that aren't taken alone")
         END_LIST_WITHOUT(1 << TAKEN)
 ENDCASE
 // covers: type-branch branch-target
-CASE("a branch backward, and one to itself plus 4")
+CASE_ALL("a branch backward, and one to itself plus 4")
         START_M(CTL_M | CTL_NTBREN)
         LIST
 6:      j       2f
@@ -72,7 +72,7 @@ CASE("a branch backward, and one to itself plus 4")
         HALT
         END_LIST
 ENDCASE
-CASE("a branch far forward and far back")
+CASE_ALL("a branch far forward and far back")
         START_M(CTL_M)
         LIST
 1:      beq     x0, x0, 3f

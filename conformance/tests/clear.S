@@ -15,12 +15,12 @@
 
 TESTS(35000)
 // covers: clear-entries
-CASE("in M")
+CASE_OR("in M", "in S")
         FILL
         SCTRCLR
         ALL_ZERO
 ENDCASE
-CASE("at the greatest depth")
+CASE_ALL("at the greatest depth")
         li      t0, 5
 1:      addi    t0, t0, -1
         csrw    sctrdepth, t0
@@ -39,7 +39,7 @@ CASE("in S")
         ecall
 8:      ALL_ZERO
 ENDCASE
-CASE("in VS")
+CASE_ALL("in VS")
         NEED(HAS_H)
         FILL
         AFTER(8f)
@@ -49,7 +49,7 @@ CASE("in VS")
 8:      ALL_ZERO
 ENDCASE
 // covers: clear-entries
-CASE("entries that hold no transfer are zeroed too")
+CASE_ALL("entries that hold no transfer are zeroed too")
         START_M(0)
         FILL
         li      s5, 0
@@ -62,7 +62,7 @@ CASE("entries that hold no transfer are zeroed too")
         ALL_ZERO
 ENDCASE
 // covers: clear-leaves clear-entries
-CASE("between transfers: what comes after it alone is there")
+CASE_ALL("between transfers: what comes after it alone is there")
         START_M(CTL_M)
 1:      j       2f
 2:      j       3f
@@ -75,7 +75,7 @@ CASE("between transfers: what comes after it alone is there")
 6:      HALT
         END_LIST
 ENDCASE
-CASE("after it the buffer takes as many entries as before")
+CASE_ALL("after it the buffer takes as many entries as before")
         START_M(CTL_M)
         csrr    t0, sctrdepth
         li      t1, 16
@@ -99,7 +99,7 @@ CASE("after it the buffer takes as many entries as before")
         call    ctr_check_entry
         CHECK_ENTRY(0, 3b, 2b, TAKEN)
 ENDCASE
-CASE("it leaves the controls and FROZEN")
+CASE_ALL("it leaves the controls and FROZEN")
         START_M(CTL_M)
 1:      j       2f
 2:      li      t0, FROZEN
@@ -116,7 +116,7 @@ CASE("it leaves the controls and FROZEN")
         CHECK_REGS(s4, t0)
         CHECK_EQ(s5, CTL_M)
 ENDCASE
-CASE("it leaves WRPTR, the depth, the selects and vsctrctl")
+CASE_ALL("it leaves WRPTR, the depth, the selects and vsctrctl")
         GREATEST_DEPTH
         csrr    s5, sctrdepth
         li      t0, ENTRY + 5
@@ -157,7 +157,7 @@ CASE("in S and in VS too it leaves the controls, WRPTR and FROZEN")
         CHECK_CSR(vsctrctl, CTL_VU | CTL_BPFRZ)
 ENDCASE
 // covers: clear-entries recorded-pointer
-CASE("a record after it goes to where WRPTR points, and is entry 0")
+CASE_ALL("a record after it goes to where WRPTR points, and is entry 0")
         START_M(CTL_M)
         csrwi   sctrstatus, 15
         SCTRCLR
@@ -174,7 +174,7 @@ CASE("a record after it goes to where WRPTR points, and is entry 0")
         CHECK_REGS(t0, t1)
 ENDCASE
 // covers: clear-entries
-CASE("while FROZEN is set, and with recording off, it zeroes the entries too")
+CASE_ALL("while FROZEN is set, and with recording off, it zeroes the entries too")
         FILL
         li      t0, FROZEN
         csrs    sctrstatus, t0

@@ -9,7 +9,7 @@
 
 TESTS(25000)
 // covers: control-fields
-CASE("M, S, U and BPFRZ of mctrctl are there")
+CASE_OR("M, S, U and BPFRZ of mctrctl are there", "S, U and BPFRZ of sctrctl are there")
         la      t0, begin_signature
         ld      t0, R_MCTRCTL(t0)
         li      t1, CTL_M | CTL_S | CTL_U | CTL_BPFRZ
@@ -17,7 +17,7 @@ CASE("M, S, U and BPFRZ of mctrctl are there")
         CHECK_REGS(t0, t1)
 ENDCASE
 // covers: control-overflow
-CASE("LCOFIFRZ is there where the interrupt is")
+CASE_ALL("LCOFIFRZ is there where the interrupt is")
         NEED(HAS_LCOFI)
         la      t0, begin_signature
         ld      t0, R_MCTRCTL(t0)
@@ -26,11 +26,11 @@ CASE("LCOFIFRZ is there where the interrupt is")
         CHECK_REGS(t0, t1)
 ENDCASE
 // covers: control-holds
-CASE("mctrctl: each field that is there holds 1 and 0")
+CASE_OR("mctrctl: each field that is there holds 1 and 0", "sctrctl: each field that is there holds 1 and 0")
         EACH_BIT(mctrctl, R_MCTRCTL)
 ENDCASE
 // covers: control-rest
-CASE("mctrctl: what the standard doesn't name reads 0")
+CASE_OR("mctrctl: what the standard doesn't name reads 0", "sctrctl: M, MTE and what the standard doesn't name read 0")
         la      t0, begin_signature
         ld      t0, R_MCTRCTL(t0)
         li      t1, ~CTL_KNOWN_M
@@ -68,7 +68,7 @@ CASE("a write of sctrctl changes the other fields and leaves M and MTE")
         CHECK_REGS(s5, t1)
 ENDCASE
 // covers: guest-control-fields
-CASE("S, U and BPFRZ of vsctrctl are there")
+CASE_ALL("S, U and BPFRZ of vsctrctl are there")
         NEED(HAS_H)
         la      t0, begin_signature
         ld      t0, R_VSCTRCTL(t0)
@@ -76,11 +76,11 @@ CASE("S, U and BPFRZ of vsctrctl are there")
         and     t0, t0, t1
         CHECK_REGS(t0, t1)
 ENDCASE
-CASE("vsctrctl: each field that is there holds 1 and 0")
+CASE_ALL("vsctrctl: each field that is there holds 1 and 0")
         NEED(HAS_H)
         EACH_BIT(vsctrctl, R_VSCTRCTL)
 ENDCASE
-CASE("vsctrctl: M, MTE and what the standard doesn't name read 0")
+CASE_ALL("vsctrctl: M, MTE and what the standard doesn't name read 0")
         NEED(HAS_H)
         la      t0, begin_signature
         ld      t0, R_VSCTRCTL(t0)
@@ -89,7 +89,7 @@ CASE("vsctrctl: M, MTE and what the standard doesn't name read 0")
         CHECK_EQ(t0, 0)
 ENDCASE
 // covers: guest-control-own
-CASE("vsctrctl and mctrctl are two registers")
+CASE_OR("vsctrctl and mctrctl are two registers", "vsctrctl and sctrctl are two registers")
         NEED(HAS_H)
         li      t0, CTL_U | CTL_BPFRZ
         csrw    mctrctl, t0
@@ -111,7 +111,7 @@ CASE("vsctrctl and mctrctl are two registers")
         CHECK_EQ(s5, 0)
 ENDCASE
 // covers: guest-control-view
-CASE("in VS sctrctl is vsctrctl")
+CASE_ALL("in VS sctrctl is vsctrctl")
         NEED(HAS_H)
         START(CTL_BPFRZ, CTL_VU, 8f)
         ENTER_VS(1f)
@@ -122,7 +122,7 @@ CASE("in VS sctrctl is vsctrctl")
         CHECK_CSR(vsctrctl, 0)
         CHECK_EQ(s11, CTL_BPFRZ)
 ENDCASE
-CASE("in VS each field of vsctrctl is written by sctrctl, and mctrctl stays")
+CASE_OR("in VS each field of vsctrctl is written by sctrctl, and mctrctl stays", "in VS each field of vsctrctl is written by sctrctl, and sctrctl stays")
         NEED(HAS_H)
         la      t0, begin_signature
         ld      s4, R_VSCTRCTL(t0)
@@ -178,7 +178,7 @@ CASE("each field of sctrctl, by itself, in S: M and MTE stay")
         CHECK_REGS(s11, s3)
 ENDCASE
 // covers: registers-apart
-CASE("a write of a control leaves WRPTR, FROZEN, the depth and the selects")
+CASE_ALL("a write of a control leaves WRPTR, FROZEN, the depth and the selects")
         GREATEST_DEPTH
         csrr    s5, sctrdepth
         li      t0, ENTRY + 3

@@ -11,7 +11,7 @@
 
 TESTS(15000)
 // covers: cycles-clear
-CASE("the first record after SCTRCLR has no count")
+CASE_ALL("the first record after SCTRCLR has no count")
         NEED(HAS_CYCLES)
         START_M(CTL_M)
 1:      j       2f
@@ -25,7 +25,7 @@ CASE("the first record after SCTRCLR has no count")
         CHECK_EQ(s4, 0)
 ENDCASE
 // covers: cycles-count
-CASE("later records have one, and a thousand instructions take more cycles than a few")
+CASE_ALL("later records have one, and a thousand instructions take more cycles than a few")
         NEED(HAS_CYCLES)
         START_M(CTL_M)
 1:      j       2f

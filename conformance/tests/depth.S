@@ -3,14 +3,14 @@
 
 TESTS(30000)
 // covers: depth-legal
-CASE("there is a depth")
+CASE_ALL("there is a depth")
         la      t0, begin_signature
         ld      t0, R_FEATURES(t0)
         andi    t0, t0, 31
         seqz    t0, t0
         CHECK_EQ(t0, 0)
 ENDCASE
-CASE("whatever is written, a depth that there is is read")
+CASE_ALL("whatever is written, a depth that there is is read")
         la      t0, begin_signature
         ld      s4, R_FEATURES(t0)
         li      s5, 0
@@ -33,7 +33,7 @@ CASE("whatever is written, a depth that there is is read")
         CHECK_EQ(t0, 0)
 ENDCASE
 // covers: depth-above
-CASE("entries from the depth up read 0 and ignore writes, at each depth")
+CASE_ALL("entries from the depth up read 0 and ignore writes, at each depth")
         li      s5, 0
 1:      csrw    sctrdepth, s5
         csrr    t0, sctrdepth
@@ -76,7 +76,7 @@ CASE("entries from the depth up read 0 and ignore writes, at each depth")
         bltu    s5, t0, 1b
 ENDCASE
 // covers: depth-pointer
-CASE("after a change of depth WRPTR is below it")
+CASE_ALL("after a change of depth WRPTR is below it")
         li      s5, 0
 1:      li      s4, 0
 2:      csrw    sctrdepth, s5
@@ -99,7 +99,7 @@ CASE("after a change of depth WRPTR is below it")
         bltu    s5, t0, 1b
 ENDCASE
 // covers: depth-same
-CASE("a write of the depth that is there is no change: entries and WRPTR stay")
+CASE_ALL("a write of the depth that is there is no change: entries and WRPTR stay")
         START_M(CTL_M)
         LIST
 1:      j       2f
@@ -144,7 +144,7 @@ CASE("S can write each depth that there is")
         CHECK_REGS(s3, s4)
 ENDCASE
 // covers: registers-apart
-CASE("a write of the depth leaves FROZEN, the controls and the selects")
+CASE_ALL("a write of the depth leaves FROZEN, the controls and the selects")
         li      t0, CTL_U | CTL_BPFRZ
         csrw    mctrctl, t0
         li      t0, ENTRY + 3
@@ -163,7 +163,7 @@ CASE("a write of the depth leaves FROZEN, the controls and the selects")
         CHECK_CSR(siselect, ENTRY + 3)
 ENDCASE
 // covers: depth-legal recorded-lost
-CASE("after a change to the least depth, as many records as it has are kept")
+CASE_ALL("after a change to the least depth, as many records as it has are kept")
         la      t0, ctr_depth
         ld      s5, 0(t0)
         GREATEST_DEPTH

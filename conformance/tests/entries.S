@@ -3,7 +3,7 @@
 
 TESTS(30000)
 // covers: entry-registers entry-address entry-valid entry-type
-CASE("source, V, target and type of each entry hold what is written")
+CASE_ALL("source, V, target and type of each entry hold what is written")
         ENTRIES_IN_S4
         li      s5, 0
 1:      addi    t0, s5, ENTRY           // write all
@@ -34,7 +34,7 @@ CASE("source, V, target and type of each entry hold what is written")
         bltu    s5, s4, 2b
 ENDCASE
 // covers: entry-valid
-CASE("V can be written 0 with the address kept or not")
+CASE_ALL("V can be written 0 with the address kept or not")
         li      t0, ENTRY
         csrw    siselect, t0
         la      t0, _start
@@ -44,7 +44,7 @@ CASE("V can be written 0 with the address kept or not")
         CHECK_EQ(t0, 0)
 ENDCASE
 // covers: entry-type
-CASE("each transfer type of the standard holds")
+CASE_ALL("each transfer type of the standard holds")
         NEED(HAS_TYPE)
         li      t0, ENTRY
         csrw    siselect, t0
@@ -57,7 +57,7 @@ CASE("each transfer type of the standard holds")
         .endr
 ENDCASE
 // covers: entry-data-rest
-CASE("the data word has no other bits than the type and those of the cycle count")
+CASE_ALL("the data word has no other bits than the type and those of the cycle count")
         li      t0, ENTRY
         csrw    siselect, t0
         li      t0, -1
@@ -69,7 +69,7 @@ CASE("the data word has no other bits than the type and those of the cycle count
         CHECK_EQ(t0, 0)
 ENDCASE
 // covers: entry-unused
-CASE("sireg4 to sireg6 read 0 and ignore writes")
+CASE_ALL("sireg4 to sireg6 read 0 and ignore writes")
         li      t0, ENTRY
         csrw    siselect, t0
         li      t0, -1
@@ -81,7 +81,7 @@ CASE("sireg4 to sireg6 read 0 and ignore writes")
         CHECK_CSR(sireg6, 0)
 ENDCASE
 // covers: entry-alone
-CASE("a write of one entry leaves the others and WRPTR")
+CASE_ALL("a write of one entry leaves the others and WRPTR")
         START_M(CTL_M)
 1:      j       2f
 2:      j       3f
@@ -99,7 +99,7 @@ CASE("a write of one entry leaves the others and WRPTR")
 8:      CHECK_CSR(sctrstatus, 3)
 ENDCASE
 // covers: recorded-whole
-CASE("a record replaces what software wrote, in all three parts")
+CASE_ALL("a record replaces what software wrote, in all three parts")
         START_M(0)
         csrr    t0, sctrdepth           // the physical entry 0 is the last entry while WRPTR is 0
         li      t1, 16
@@ -118,7 +118,7 @@ CASE("a record replaces what software wrote, in all three parts")
 2:      HALT
         END_LIST
 ENDCASE
-CASE("so does a record without source or target")
+CASE_ALL("so does a record without source or target")
         START(CTL_M, 0, 8f)
         csrr    t0, sctrdepth           // the two physical entries to come are the last two
         li      t1, 16
@@ -140,7 +140,7 @@ CASE("so does a record without source or target")
         END_LIST
 ENDCASE
 // covers: entry-guest-select
-CASE("vsireg* and vsiselect reach the same entries, and siselect is another register")
+CASE_ALL("vsireg* and vsiselect reach the same entries, and siselect is another register")
         NEED(HAS_H)
         li      t0, 0x203
         csrw    siselect, t0
@@ -168,7 +168,7 @@ CASE("vsireg* and vsiselect reach the same entries, and siselect is another regi
         CHECK_CSR(sireg, 0)
         CHECK_CSR(vsiselect, 0x205)
 ENDCASE
-CASE("vsiselect names the same entries as siselect, at the greatest depth")
+CASE_ALL("vsiselect names the same entries as siselect, at the greatest depth")
         NEED(HAS_H)
         li      t0, 5
 1:      addi    t0, t0, -1
@@ -196,7 +196,7 @@ CASE("vsiselect names the same entries as siselect, at the greatest depth")
         bltu    s5, s4, 3b
 ENDCASE
 // covers: entry-guest-view
-CASE("in VS siselect and sireg are vsiselect and vsireg")
+CASE_ALL("in VS siselect and sireg are vsiselect and vsireg")
         NEED(HAS_H)
         li      t0, 0x203
         csrw    siselect, t0
@@ -216,7 +216,7 @@ CASE("in VS siselect and sireg are vsiselect and vsireg")
         la      t1, _start + 1
         CHECK_REGS(t0, t1)
 ENDCASE
-CASE("in VS all three parts of an entry are written and read, by a select of its own")
+CASE_ALL("in VS all three parts of an entry are written and read, by a select of its own")
         NEED(HAS_H)
         li      t0, ENTRY + 1
         csrw    siselect, t0
@@ -240,7 +240,7 @@ CASE("in VS all three parts of an entry are written and read, by a select of its
         CHECK_ENTRY(2, _start, _start + 8, RETURN)
 ENDCASE
 // covers: entry-guest-select entry-type
-CASE("vsireg, vsireg2 and vsireg3 read the parts of an entry, each its own")
+CASE_ALL("vsireg, vsireg2 and vsireg3 read the parts of an entry, each its own")
         NEED(HAS_H)
         li      t0, ENTRY + 4
         csrw    siselect, t0
@@ -267,7 +267,7 @@ CASE("vsireg, vsireg2 and vsireg3 read the parts of an entry, each its own")
         CHECK_EQ(t0, INDLINK)
 ENDCASE
 // covers: entry-unused entry-alone
-CASE("a write of sireg4 to sireg6, or of vsireg4 to vsireg6, leaves the entry")
+CASE_ALL("a write of sireg4 to sireg6, or of vsireg4 to vsireg6, leaves the entry")
         la      s5, _start + 1
         li      t0, ENTRY + 2
         csrw    siselect, t0
@@ -293,7 +293,7 @@ CASE("a write of sireg4 to sireg6, or of vsireg4 to vsireg6, leaves the entry")
         CHECK_CSR(vsireg6, 0)
 ENDCASE
 // covers: entry-alone
-CASE("a write of one part of an entry leaves its other two")
+CASE_ALL("a write of one part of an entry leaves its other two")
         li      t0, ENTRY + 1
         csrw    siselect, t0
         la      t0, _start + 1
@@ -313,7 +313,7 @@ CASE("a write of one part of an entry leaves its other two")
         CHECK_ENTRY(1, ctr_strap, _start, INDCALL)
 ENDCASE
 // covers: entry-valid entry-registers
-CASE("CSRRS and CSRRC set and clear V, and read the old word")
+CASE_ALL("CSRRS and CSRRC set and clear V, and read the old word")
         li      t0, ENTRY
         csrw    siselect, t0
         la      t0, _start
@@ -329,7 +329,7 @@ CASE("CSRRS and CSRRC set and clear V, and read the old word")
         CHECK_EQ(t0, 0)
 ENDCASE
 // covers: entry-registers
-CASE("siselect and vsiselect hold the select of each entry")
+CASE_ALL("siselect and vsiselect hold the select of each entry")
         li      s5, ENTRY
 1:      csrw    siselect, s5
         csrr    t0, siselect
@@ -350,7 +350,7 @@ CASE("siselect and vsiselect hold the select of each entry")
         CHECK_CSR(siselect, ENTRY)
 ENDCASE
 // covers: saved
-CASE("what is saved by registers and restored by them is the same list, and goes on as it would have")
+CASE_ALL("what is saved by registers and restored by them is the same list, and goes on as it would have")
         START_M(CTL_M)
         LIST
 1:      j       2f

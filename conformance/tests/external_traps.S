@@ -3,17 +3,17 @@
 #include "ctr.h"
 
 // Every set of mctrctl.STE, mctrctl.MTE and (for guests) vsctrctl.STE; it is recorded where all of `needs` are set.
-// needs: 1 STE, 2 MTE, 4 vsctrctl.STE. The trap is the instruction at 1.
+// needs: 1 STE, 2 MTE, 4 vsctrctl.STE; MTE is out of the reach of S. The trap is the instruction at 1.
 #define SETS(sets, m, vs, needs, ENTER, trap) \
         li s5, 0; \
-4:      andi t0, s5, 1; slli t0, t0, 8; andi t1, s5, 2; slli t1, t1, 8; or t0, t0, t1; li a0, m; or a0, a0, t0; \
+4:      andi t0, s5, 7 & ~EXTERNAL_BITS; bnez t0, 5f; andi t0, s5, 1; slli t0, t0, 8; andi t1, s5, 2; slli t1, t1, 8; or t0, t0, t1; li a0, m; or a0, a0, t0; \
         andi t1, s5, 4; slli t1, t1, 6; li a1, vs; or a1, a1, t1; \
         START_REGS(8f); ENTER(1f); \
 1:      trap; \
 8:      LIST; ROW(1b, 0, EXCEPTION); \
-        andi t0, s5, needs; addi t0, t0, -needs; snez t0, t0; neg s4, t0; \
+        andi t0, s5, (needs) & EXTERNAL_BITS; addi t0, t0, -((needs) & EXTERNAL_BITS); snez t0, t0; neg s4, t0; \
         CLOSE_LIST; la a0, 97b; mv a1, s4; call ctr_check_list; \
-        addi s5, s5, 1; li t0, sets; bltu s5, t0, 4b
+5:      addi s5, s5, 1; li t0, sets; bltu s5, t0, 4b
 
 TESTS(40000)
 // covers: external-bits external-target trap-out
@@ -22,7 +22,7 @@ CASE("U to S needs STE")
         DELEGATE(1 << 8, 0)
         SETS(4, CTL_U, 0, 1, ENTER_U, ecall)
 ENDCASE
-CASE("U to M needs MTE and STE")
+CASE_OR("U to M needs MTE and STE", "U to S needs STE")
         NEED_CTL(CTL_STE | CTL_MTE, 0)
         SETS(4, CTL_U, 0, 3, ENTER_U, ecall)
 ENDCASE
@@ -34,7 +34,7 @@ CASE("S to M needs MTE")
         NEED_CTL(CTL_STE | CTL_MTE, 0)
         SETS(4, CTL_S, 0, 2, ENTER_S, ecall)
 ENDCASE
-CASE("VU to VS needs vsctrctl.STE")
+CASE_ALL("VU to VS needs vsctrctl.STE")
         NEED(HAS_H)
         NEED_CTL(CTL_STE | CTL_MTE, CTL_STE)
         DELEGATE(1 << 8, 1 << 8)
@@ -46,7 +46,7 @@ CASE("VU to HS needs STE and vsctrctl.STE")
         DELEGATE(1 << 8, 0)
         SETS(8, 0, CTL_VU, 5, ENTER_VU, ecall)
 ENDCASE
-CASE("VU to M needs MTE, STE and vsctrctl.STE")
+CASE_OR("VU to M needs MTE, STE and vsctrctl.STE", "VU to HS needs STE and vsctrctl.STE")
         NEED(HAS_H)
         NEED_CTL(CTL_STE | CTL_MTE, CTL_STE)
         SETS(8, 0, CTL_VU, 7, ENTER_VU, ecall)
@@ -57,13 +57,13 @@ CASE("VS to HS needs STE")
         DELEGATE(1 << 10, 0)
         SETS(8, 0, CTL_VS, 1, ENTER_VS, ecall)
 ENDCASE
-CASE("VS to M needs MTE and STE")
+CASE_OR("VS to M needs MTE and STE", "VS to HS needs STE")
         NEED(HAS_H)
         NEED_CTL(CTL_STE | CTL_MTE, CTL_STE)
         SETS(8, 0, CTL_VS, 3, ENTER_VS, ecall)
 ENDCASE
 // covers: external-filters
-CASE("EXCINH doesn't leave an external exception out")
+CASE_ALL("EXCINH doesn't leave an external exception out")
         NEED_CTL(CTL_STE | CTL_MTE | CTL_EXCINH, 0)
         SETS(4, CTL_U | CTL_EXCINH, 0, 3, ENTER_U, ecall)
 ENDCASE
@@ -73,7 +73,7 @@ CASE("vsctrctl.EXCINH doesn't leave an external exception out")
         DELEGATE(1 << 8, 0)
         SETS(8, 0, CTL_VU | CTL_EXCINH, 5, ENTER_VU, ecall)
 ENDCASE
-CASE("an external interrupt, which INTRINH doesn't leave out")
+CASE_ALL("an external interrupt, which INTRINH doesn't leave out")
         NEED_CTL(CTL_STE | CTL_MTE | CTL_INTRINH, 0)
         csrwi   mie, 2                  // the supervisor software interrupt, taken in M
         csrsi   mip, 2

@@ -2,8 +2,7 @@
 #include "ctr.h"
 #include "jumps_all.h"
 
-#define FILTER(text, bit) \
-CASE(text); NEED_CTL(bit, 0); li a0, CTL_M | bit; li a1, 0; li a2, bit; li a3, 0; RUN(run_m, list_m); ENDCASE
+#define FILTER(bit) NEED_CTL(bit, 0); li a0, CTL_M | bit; li a1, 0; li a2, bit; li a3, 0; RUN(run_m, list_m); ENDCASE
 
 // Each filter bit that there is, one at a time. m and vs enable the mode; guest is 1 where vsctrctl filters.
 #define EACH(m, vs, guest, run, list) \
@@ -17,24 +16,24 @@ CASE(text); NEED_CTL(bit, 0); li a0, CTL_M | bit; li a1, 0; li a2, bit; li a3, 0
 
 TESTS(800000)
 // covers: filter-own filter-not-taken
-CASE("without filter bits all but branches that aren't taken are recorded")
+CASE_ALL("without filter bits all but branches that aren't taken are recorded")
         li      a0, CTL_M
         li      a1, 0
         li      a2, 0
         li      a3, 0
         RUN(run_m, list_m)
 ENDCASE
-FILTER("NTBREN, branches that aren't taken", CTL_NTBREN)
-FILTER("TKBRINH, taken branches", CTL_TKBRINH)
-FILTER("INDCALLINH, indirect calls", CTL_INDCALLINH)
-FILTER("DIRCALLINH, direct calls", CTL_DIRCALLINH)
-FILTER("INDJMPINH, indirect jumps", CTL_INDJMPINH)
-FILTER("DIRJMPINH, direct jumps", CTL_DIRJMPINH)
-FILTER("CORSWAPINH, co-routine swaps", CTL_CORSWAPINH)
-FILTER("RETINH, function returns", CTL_RETINH)
-FILTER("INDLJMPINH, other indirect jumps", CTL_INDLJMPINH)
-FILTER("DIRLJMPINH, other direct jumps", CTL_DIRLJMPINH)
-CASE("all sets of the filter bits that there are")
+CASE_ALL("NTBREN, branches that aren't taken"); FILTER(CTL_NTBREN)
+CASE_ALL("TKBRINH, taken branches"); FILTER(CTL_TKBRINH)
+CASE_ALL("INDCALLINH, indirect calls"); FILTER(CTL_INDCALLINH)
+CASE_ALL("DIRCALLINH, direct calls"); FILTER(CTL_DIRCALLINH)
+CASE_ALL("INDJMPINH, indirect jumps"); FILTER(CTL_INDJMPINH)
+CASE_ALL("DIRJMPINH, direct jumps"); FILTER(CTL_DIRJMPINH)
+CASE_ALL("CORSWAPINH, co-routine swaps"); FILTER(CTL_CORSWAPINH)
+CASE_ALL("RETINH, function returns"); FILTER(CTL_RETINH)
+CASE_ALL("INDLJMPINH, other indirect jumps"); FILTER(CTL_INDLJMPINH)
+CASE_ALL("DIRLJMPINH, other direct jumps"); FILTER(CTL_DIRLJMPINH)
+CASE_ALL("all sets of the filter bits that there are")
         la      t0, ctr_scratch
         sd      x0, 0(t0)
 1:      la      t0, begin_signature     // the next set: (set - mask) & mask
@@ -59,19 +58,19 @@ ENDCASE
 CASE("each filter bit of mctrctl in S")
         EACH(CTL_S, 0, 0, run_s, list_s)
 ENDCASE
-CASE("each filter bit of mctrctl in U")
+CASE_OR("each filter bit of mctrctl in U", "each filter bit of sctrctl in U")
         EACH(CTL_U, 0, 0, run_u, list_u)
 ENDCASE
 // covers: filter-own guest-filters
-CASE("each filter bit of vsctrctl in VS")
+CASE_ALL("each filter bit of vsctrctl in VS")
         NEED(HAS_H)
         EACH(0, CTL_VS, 1, run_vs, list_vs)
 ENDCASE
-CASE("each filter bit of vsctrctl in VU")
+CASE_ALL("each filter bit of vsctrctl in VU")
         NEED(HAS_H)
         EACH(0, CTL_VU, 1, run_vu, list_vu)
 ENDCASE
-CASE("filter bits of mctrctl don't count in VS")
+CASE_OR("filter bits of mctrctl don't count in VS", "filter bits of sctrctl don't count in VS")
         NEED(HAS_H)
         la      t0, begin_signature
         ld      a0, R_MCTRCTL(t0)
@@ -108,7 +107,7 @@ CASE("filter bits written through sctrctl count in S and in M")
         END_LIST
 ENDCASE
 // covers: filter-own
-CASE("the filter bits of traps leave branches and jumps in")
+CASE_ALL("the filter bits of traps leave branches and jumps in")
         la      t0, begin_signature
         ld      a0, R_MCTRCTL(t0)
         li      a1, CTL_EXCINH | CTL_INTRINH | CTL_TRETINH
@@ -120,7 +119,7 @@ CASE("the filter bits of traps leave branches and jumps in")
         RUN(run_m, list_m)
 ENDCASE
 // covers: guest-filters
-CASE("filter bits of mctrctl don't count in VU")
+CASE_OR("filter bits of mctrctl don't count in VU", "filter bits of sctrctl don't count in VU")
         NEED(HAS_H)
         la      t0, begin_signature
         ld      a0, R_MCTRCTL(t0)
@@ -131,7 +130,7 @@ CASE("filter bits of mctrctl don't count in VU")
         li      a3, 0
         RUN(run_vu, list_vu)
 ENDCASE
-CASE("filter bits of vsctrctl don't count in U")
+CASE_ALL("filter bits of vsctrctl don't count in U")
         NEED(HAS_H)
         la      t0, begin_signature
         ld      a1, R_VSCTRCTL(t0)
@@ -143,7 +142,7 @@ CASE("filter bits of vsctrctl don't count in U")
         RUN(run_u, list_u)
 ENDCASE
 // covers: filter-own recorded-pointer
-CASE("a transfer that is filtered out leaves WRPTR")
+CASE_ALL("a transfer that is filtered out leaves WRPTR")
         NEED_CTL(CTL_DIRJMPINH, 0)
         START_M(CTL_M | CTL_DIRJMPINH)
         LIST

@@ -3,26 +3,26 @@
 #include "ctr.h"
 
 // s10, s8 and s9 are sctrstatus as found in M, HS and VS.
-#define TRAP(name, m, vs, med, hed, ENTER, trap, row, reg, IS) \
-CASE(name); DELEGATE(med, hed); li s8, 0; li s9, 0; START(m, vs, 8f); ENTER(1f); \
+#define TRAP(m, vs, med, hed, ENTER, trap, row, reg, IS) \
+        DELEGATE(med, hed); li s8, 0; li s9, 0; START(m, vs, 8f); ENTER(1f); \
 1:      j 2f; \
 2:      trap; \
 8:      mv s4, reg; LIST; row; END_LIST; IS(s4); ENDCASE
-#define GUEST_TRAP(name, m, vs, med, hed, ENTER, trap, row, reg, IS) \
-CASE(name); NEED(HAS_H); DELEGATE(med, hed); li s8, 0; li s9, 0; START(m, vs, 8f); ENTER(1f); \
+#define GUEST_TRAP(m, vs, med, hed, ENTER, trap, row, reg, IS) \
+        NEED(HAS_H); DELEGATE(med, hed); li s8, 0; li s9, 0; START(m, vs, 8f); ENTER(1f); \
 1:      j 2f; \
 2:      trap; \
 8:      mv s4, reg; LIST; row; END_LIST; IS(s4); ENDCASE
 // The local counter overflow interrupt is pended before the mode is entered.
-#define OVERFLOW(name, m, vs, mid, hid, ENTER, row, reg, IS) \
-CASE(name); NEED(HAS_LCOFI); DELEGATE_INT(mid, hid); li t0, 1 << 13; csrw mie, t0; csrs mip, t0; li s8, 0; li s9, 0; \
+#define OVERFLOW(m, vs, mid, hid, ENTER, row, reg, IS) \
+        NEED(HAS_LCOFI); DELEGATE_INT(mid, hid); li t0, 1 << 13; csrw mie, t0; csrs mip, t0; li s8, 0; li s9, 0; \
         START(m, vs, 8f); ENTER(1f); \
 1:      nop; ecall; \
 8:      mv s4, reg; li t0, 1 << 13; csrc mip, t0; LIST; row; END_LIST; IS(s4); ENDCASE
 
 TESTS(35000)
 // covers: freeze-stops frozen-holds
-CASE("FROZEN, written by software, stops recording, and clearing it starts it again")
+CASE_ALL("FROZEN, written by software, stops recording, and clearing it starts it again")
         START_M(CTL_M)
         LIST
 1:      j       2f
@@ -39,7 +39,7 @@ CASE("FROZEN, written by software, stops recording, and clearing it starts it ag
         CHECK_CSR(sctrstatus, 2)
 ENDCASE
 // covers: freeze-stops
-CASE("while FROZEN is set a return takes nothing away under return-stack emulation")
+CASE_ALL("while FROZEN is set a return takes nothing away under return-stack emulation")
         START_M(CTL_M | CTL_RASEMU)
         LIST
 1:      jal     x1, 2f
@@ -78,7 +78,7 @@ CASE("traps and returns leave FROZEN, and aren't recorded under it")
         CHECK_EQ(s5, FROZEN)
 ENDCASE
 // covers: freeze-writes registers-apart
-CASE("while FROZEN is set the entries, WRPTR and the controls can be written")
+CASE_ALL("while FROZEN is set the entries, WRPTR and the controls can be written")
         START_M(0)
         li      t0, FROZEN
         csrs    sctrstatus, t0
@@ -102,53 +102,53 @@ CASE("while FROZEN is set the entries, WRPTR and the controls can be written")
         CHECK_EQ(s4, FROZEN | 1)
 ENDCASE
 // covers: freeze-breakpoint
-TRAP("without BPFRZ EBREAK is an exception like others, in M", CTL_U | CTL_M, 0, 0, 0, ENTER_U, ebreak, ROW(90b, 1b, TRAPRET); ROW(1b, 2b, DIRJUMP); ROW(2b, ctr_mtrap, EXCEPTION), s10, NOT_FROZEN)
-TRAP("BPFRZ, from U into M", CTL_U | CTL_M | CTL_BPFRZ, 0, 0, 0, ENTER_U, ebreak, ROW(90b, 1b, TRAPRET); ROW(1b, 2b, DIRJUMP), s10, IS_FROZEN)
-TRAP("BPFRZ, from M into M", CTL_M | CTL_BPFRZ, 0, 0, 0, ENTER_M, ebreak, ROW(90b, 1b, TRAPRET); ROW(1b, 2b, DIRJUMP), s10, IS_FROZEN)
+CASE_OR("without BPFRZ EBREAK is an exception like others, in M", "without BPFRZ EBREAK is an exception like others, in S"); TRAP(CTL_U | CTL_M, 0, 0, 0, ENTER_U, ebreak, ROW(90b, 1b, TRAPRET); ROW(1b, 2b, DIRJUMP); ROW(2b, ctr_mtrap, EXCEPTION), s10, NOT_FROZEN)
+CASE_OR("BPFRZ, from U into M", "BPFRZ, from U into S"); TRAP(CTL_U | CTL_M | CTL_BPFRZ, 0, 0, 0, ENTER_U, ebreak, ROW(90b, 1b, TRAPRET); ROW(1b, 2b, DIRJUMP), s10, IS_FROZEN)
+CASE_OR("BPFRZ, from M into M", "BPFRZ, from S into S"); TRAP(CTL_M | CTL_BPFRZ, 0, 0, 0, ENTER_M, ebreak, ROW(90b, 1b, TRAPRET); ROW(1b, 2b, DIRJUMP), s10, IS_FROZEN)
 // covers: freeze-breakpoint freeze-modes
-TRAP("BPFRZ, from U into M, U enabled", CTL_U | CTL_BPFRZ, 0, 0, 0, ENTER_U, ebreak, ROW(1b, 2b, DIRJUMP), s10, IS_FROZEN)
+CASE_OR("BPFRZ, from U into M, U enabled", "BPFRZ, from U into S, U enabled"); TRAP(CTL_U | CTL_BPFRZ, 0, 0, 0, ENTER_U, ebreak, ROW(1b, 2b, DIRJUMP), s10, IS_FROZEN)
 // covers: freeze-breakpoint
-TRAP("BPFRZ, from U into S", CTL_U | CTL_S | CTL_BPFRZ, 0, 1 << 3, 0, ENTER_U, ebreak, ROW(1b, 2b, DIRJUMP), s8, IS_FROZEN)
-TRAP("without BPFRZ, from U into S", CTL_U | CTL_S, 0, 1 << 3, 0, ENTER_U, ebreak, ROW(1b, 2b, DIRJUMP); ROW(2b, ctr_strap, EXCEPTION), s8, NOT_FROZEN)
-TRAP("BPFRZ, from S into S", CTL_S | CTL_BPFRZ, 0, 1 << 3, 0, ENTER_S, ebreak, ROW(1b, 2b, DIRJUMP), s8, IS_FROZEN)
+CASE("BPFRZ, from U into S"); TRAP(CTL_U | CTL_S | CTL_BPFRZ, 0, 1 << 3, 0, ENTER_U, ebreak, ROW(1b, 2b, DIRJUMP), s8, IS_FROZEN)
+CASE("without BPFRZ, from U into S"); TRAP(CTL_U | CTL_S, 0, 1 << 3, 0, ENTER_U, ebreak, ROW(1b, 2b, DIRJUMP); ROW(2b, ctr_strap, EXCEPTION), s8, NOT_FROZEN)
+CASE("BPFRZ, from S into S"); TRAP(CTL_S | CTL_BPFRZ, 0, 1 << 3, 0, ENTER_S, ebreak, ROW(1b, 2b, DIRJUMP), s8, IS_FROZEN)
 // covers: freeze-others
-TRAP("BPFRZ, another exception doesn't freeze", CTL_U | CTL_M | CTL_BPFRZ, 0, 0, 0, ENTER_U, ecall, ROW(90b, 1b, TRAPRET); ROW(1b, 2b, DIRJUMP); ROW(2b, ctr_mtrap, EXCEPTION), s10, NOT_FROZEN)
-TRAP("LCOFIFRZ is no BPFRZ", CTL_U | CTL_M | CTL_LCOFIFRZ, 0, 0, 0, ENTER_U, ebreak, ROW(90b, 1b, TRAPRET); ROW(1b, 2b, DIRJUMP); ROW(2b, ctr_mtrap, EXCEPTION), s10, NOT_FROZEN)
+CASE_ALL("BPFRZ, another exception doesn't freeze"); TRAP(CTL_U | CTL_M | CTL_BPFRZ, 0, 0, 0, ENTER_U, ecall, ROW(90b, 1b, TRAPRET); ROW(1b, 2b, DIRJUMP); ROW(2b, ctr_mtrap, EXCEPTION), s10, NOT_FROZEN)
+CASE_ALL("LCOFIFRZ is no BPFRZ"); TRAP(CTL_U | CTL_M | CTL_LCOFIFRZ, 0, 0, 0, ENTER_U, ebreak, ROW(90b, 1b, TRAPRET); ROW(1b, 2b, DIRJUMP); ROW(2b, ctr_mtrap, EXCEPTION), s10, NOT_FROZEN)
 // covers: freeze-unfiltered
-TRAP("BPFRZ under return-stack emulation", CTL_U | CTL_M | CTL_BPFRZ | CTL_RASEMU, 0, 0, 0, ENTER_U, ebreak, NONE, s10, IS_FROZEN)
-TRAP("BPFRZ with EXCINH", CTL_U | CTL_M | CTL_BPFRZ | CTL_EXCINH, 0, 0, 0, ENTER_U, ebreak, ROW(90b, 1b, TRAPRET); ROW(1b, 2b, DIRJUMP), s10, IS_FROZEN)
-TRAP("BPFRZ, an external trap: nothing of it is recorded", CTL_U | CTL_BPFRZ | CTL_STE | CTL_MTE, 0, 0, 0, ENTER_U, ebreak, ROW(1b, 2b, DIRJUMP), s10, IS_FROZEN)
+CASE_ALL("BPFRZ under return-stack emulation"); TRAP(CTL_U | CTL_M | CTL_BPFRZ | CTL_RASEMU, 0, 0, 0, ENTER_U, ebreak, NONE, s10, IS_FROZEN)
+CASE_ALL("BPFRZ with EXCINH"); TRAP(CTL_U | CTL_M | CTL_BPFRZ | CTL_EXCINH, 0, 0, 0, ENTER_U, ebreak, ROW(90b, 1b, TRAPRET); ROW(1b, 2b, DIRJUMP), s10, IS_FROZEN)
+CASE_ALL("BPFRZ, an external trap: nothing of it is recorded"); TRAP(CTL_U | CTL_BPFRZ | CTL_STE | CTL_MTE, 0, 0, 0, ENTER_U, ebreak, ROW(1b, 2b, DIRJUMP), s10, IS_FROZEN)
 // covers: freeze-breakpoint guest-freezes
-GUEST_TRAP("vsctrctl.BPFRZ, from VU into VS", 0, CTL_VU | CTL_VS | CTL_BPFRZ, 1 << 3, 1 << 3, ENTER_VU, ebreak, ROW(1b, 2b, DIRJUMP), s9, IS_FROZEN)
-GUEST_TRAP("vsctrctl.BPFRZ, from VS into VS", 0, CTL_VS | CTL_BPFRZ, 1 << 3, 1 << 3, ENTER_VS, ebreak, ROW(1b, 2b, DIRJUMP), s9, IS_FROZEN)
-GUEST_TRAP("mctrctl.BPFRZ isn't that of VS", CTL_BPFRZ, CTL_VU | CTL_VS, 1 << 3, 1 << 3, ENTER_VU, ebreak, ROW(1b, 2b, DIRJUMP); ROW(2b, ctr_vstrap, EXCEPTION), s9, NOT_FROZEN)
-GUEST_TRAP("mctrctl.BPFRZ, from VS into HS", CTL_S | CTL_BPFRZ, CTL_VS, 1 << 3, 0, ENTER_VS, ebreak, ROW(1b, 2b, DIRJUMP), s8, IS_FROZEN)
-GUEST_TRAP("vsctrctl.BPFRZ doesn't count from VS into HS", CTL_S, CTL_VS | CTL_BPFRZ, 1 << 3, 0, ENTER_VS, ebreak, ROW(1b, 2b, DIRJUMP); ROW(2b, ctr_strap, EXCEPTION), s8, NOT_FROZEN)
-GUEST_TRAP("mctrctl.BPFRZ, from VU into M", CTL_M | CTL_BPFRZ, CTL_VU, 0, 0, ENTER_VU, ebreak, ROW(90b, 1b, TRAPRET); ROW(1b, 2b, DIRJUMP), s10, IS_FROZEN)
-GUEST_TRAP("vsctrctl.BPFRZ doesn't count from VU into M", CTL_M, CTL_VU | CTL_BPFRZ, 0, 0, ENTER_VU, ebreak, ROW(90b, 1b, TRAPRET); ROW(1b, 2b, DIRJUMP); ROW(2b, ctr_mtrap, EXCEPTION), s10, NOT_FROZEN)
-GUEST_TRAP("vsctrctl.BPFRZ, from VU into VS, neither enabled", 0, CTL_BPFRZ, 1 << 3, 1 << 3, ENTER_VU, ebreak, NONE, s9, IS_FROZEN)
-GUEST_TRAP("vsctrctl.BPFRZ, from VU into VS under return-stack emulation", 0, CTL_VU | CTL_VS | CTL_BPFRZ | CTL_RASEMU, 1 << 3, 1 << 3, ENTER_VU, ebreak, NONE, s9, IS_FROZEN)
-GUEST_TRAP("vsctrctl.BPFRZ, from VU into VS with EXCINH", 0, CTL_VU | CTL_VS | CTL_BPFRZ | CTL_EXCINH, 1 << 3, 1 << 3, ENTER_VU, ebreak, ROW(1b, 2b, DIRJUMP), s9, IS_FROZEN)
-GUEST_TRAP("vsctrctl.BPFRZ, another exception into VS doesn't freeze", 0, CTL_VU | CTL_VS | CTL_BPFRZ, 1 << 8, 1 << 8, ENTER_VU, ecall, ROW(1b, 2b, DIRJUMP); ROW(2b, ctr_vstrap, EXCEPTION), s9, NOT_FROZEN)
+CASE_ALL("vsctrctl.BPFRZ, from VU into VS"); GUEST_TRAP(0, CTL_VU | CTL_VS | CTL_BPFRZ, 1 << 3, 1 << 3, ENTER_VU, ebreak, ROW(1b, 2b, DIRJUMP), s9, IS_FROZEN)
+CASE_ALL("vsctrctl.BPFRZ, from VS into VS"); GUEST_TRAP(0, CTL_VS | CTL_BPFRZ, 1 << 3, 1 << 3, ENTER_VS, ebreak, ROW(1b, 2b, DIRJUMP), s9, IS_FROZEN)
+CASE_OR("mctrctl.BPFRZ isn't that of VS", "sctrctl.BPFRZ isn't that of VS"); GUEST_TRAP(CTL_BPFRZ, CTL_VU | CTL_VS, 1 << 3, 1 << 3, ENTER_VU, ebreak, ROW(1b, 2b, DIRJUMP); ROW(2b, ctr_vstrap, EXCEPTION), s9, NOT_FROZEN)
+CASE("mctrctl.BPFRZ, from VS into HS"); GUEST_TRAP(CTL_S | CTL_BPFRZ, CTL_VS, 1 << 3, 0, ENTER_VS, ebreak, ROW(1b, 2b, DIRJUMP), s8, IS_FROZEN)
+CASE("vsctrctl.BPFRZ doesn't count from VS into HS"); GUEST_TRAP(CTL_S, CTL_VS | CTL_BPFRZ, 1 << 3, 0, ENTER_VS, ebreak, ROW(1b, 2b, DIRJUMP); ROW(2b, ctr_strap, EXCEPTION), s8, NOT_FROZEN)
+CASE_OR("mctrctl.BPFRZ, from VU into M", "sctrctl.BPFRZ, from VU into HS"); GUEST_TRAP(CTL_M | CTL_BPFRZ, CTL_VU, 0, 0, ENTER_VU, ebreak, ROW(90b, 1b, TRAPRET); ROW(1b, 2b, DIRJUMP), s10, IS_FROZEN)
+CASE_OR("vsctrctl.BPFRZ doesn't count from VU into M", "vsctrctl.BPFRZ doesn't count from VU into HS"); GUEST_TRAP(CTL_M, CTL_VU | CTL_BPFRZ, 0, 0, ENTER_VU, ebreak, ROW(90b, 1b, TRAPRET); ROW(1b, 2b, DIRJUMP); ROW(2b, ctr_mtrap, EXCEPTION), s10, NOT_FROZEN)
+CASE_ALL("vsctrctl.BPFRZ, from VU into VS, neither enabled"); GUEST_TRAP(0, CTL_BPFRZ, 1 << 3, 1 << 3, ENTER_VU, ebreak, NONE, s9, IS_FROZEN)
+CASE_ALL("vsctrctl.BPFRZ, from VU into VS under return-stack emulation"); GUEST_TRAP(0, CTL_VU | CTL_VS | CTL_BPFRZ | CTL_RASEMU, 1 << 3, 1 << 3, ENTER_VU, ebreak, NONE, s9, IS_FROZEN)
+CASE_ALL("vsctrctl.BPFRZ, from VU into VS with EXCINH"); GUEST_TRAP(0, CTL_VU | CTL_VS | CTL_BPFRZ | CTL_EXCINH, 1 << 3, 1 << 3, ENTER_VU, ebreak, ROW(1b, 2b, DIRJUMP), s9, IS_FROZEN)
+CASE_ALL("vsctrctl.BPFRZ, another exception into VS doesn't freeze"); GUEST_TRAP(0, CTL_VU | CTL_VS | CTL_BPFRZ, 1 << 8, 1 << 8, ENTER_VU, ecall, ROW(1b, 2b, DIRJUMP); ROW(2b, ctr_vstrap, EXCEPTION), s9, NOT_FROZEN)
 // covers: freeze-breakpoint freeze-modes
-TRAP("BPFRZ, from U into M, neither enabled", CTL_BPFRZ, 0, 0, 0, ENTER_U, ebreak, NONE, s10, IS_FROZEN)
-TRAP("BPFRZ, from U into S, S enabled", CTL_S | CTL_BPFRZ, 0, 1 << 3, 0, ENTER_U, ebreak, NONE, s8, IS_FROZEN)
-TRAP("BPFRZ, from S into M, S enabled", CTL_S | CTL_BPFRZ, 0, 0, 0, ENTER_S, ebreak, ROW(1b, 2b, DIRJUMP), s10, IS_FROZEN)
+CASE_OR("BPFRZ, from U into M, neither enabled", "BPFRZ, from U into S, neither enabled"); TRAP(CTL_BPFRZ, 0, 0, 0, ENTER_U, ebreak, NONE, s10, IS_FROZEN)
+CASE("BPFRZ, from U into S, S enabled"); TRAP(CTL_S | CTL_BPFRZ, 0, 1 << 3, 0, ENTER_U, ebreak, NONE, s8, IS_FROZEN)
+CASE("BPFRZ, from S into M, S enabled"); TRAP(CTL_S | CTL_BPFRZ, 0, 0, 0, ENTER_S, ebreak, ROW(1b, 2b, DIRJUMP), s10, IS_FROZEN)
 // covers: freeze-others
-TRAP("BPFRZ, an illegal instruction doesn't freeze", CTL_U | CTL_M | CTL_BPFRZ, 0, 0, 0, ENTER_U, .word 0, ROW(90b, 1b, TRAPRET); ROW(1b, 2b, DIRJUMP); ROW(2b, ctr_mtrap, EXCEPTION), s10, NOT_FROZEN)
+CASE_ALL("BPFRZ, an illegal instruction doesn't freeze"); TRAP(CTL_U | CTL_M | CTL_BPFRZ, 0, 0, 0, ENTER_U, .word 0, ROW(90b, 1b, TRAPRET); ROW(1b, 2b, DIRJUMP); ROW(2b, ctr_mtrap, EXCEPTION), s10, NOT_FROZEN)
 // covers: freeze-overflow
-OVERFLOW("LCOFIFRZ, from U into M", CTL_U | CTL_M | CTL_LCOFIFRZ, 0, 0, 0, ENTER_U, ROW(90b, 1b, TRAPRET), s10, IS_FROZEN)
-OVERFLOW("without LCOFIFRZ, from U into M", CTL_U | CTL_M, 0, 0, 0, ENTER_U, ROW(90b, 1b, TRAPRET); ROW(1b, ctr_mtrap, INTERRUPT), s10, NOT_FROZEN)
-OVERFLOW("BPFRZ is no LCOFIFRZ", CTL_U | CTL_M | CTL_BPFRZ, 0, 0, 0, ENTER_U, ROW(90b, 1b, TRAPRET); ROW(1b, ctr_mtrap, INTERRUPT), s10, NOT_FROZEN)
-OVERFLOW("LCOFIFRZ, from U into S", CTL_U | CTL_S | CTL_LCOFIFRZ, 0, LCOFI, 0, ENTER_U, NONE, s8, IS_FROZEN)
+CASE_OR("LCOFIFRZ, from U into M", "LCOFIFRZ, from U into S"); OVERFLOW(CTL_U | CTL_M | CTL_LCOFIFRZ, 0, 0, 0, ENTER_U, ROW(90b, 1b, TRAPRET), s10, IS_FROZEN)
+CASE_OR("without LCOFIFRZ, from U into M", "without LCOFIFRZ, from U into S"); OVERFLOW(CTL_U | CTL_M, 0, 0, 0, ENTER_U, ROW(90b, 1b, TRAPRET); ROW(1b, ctr_mtrap, INTERRUPT), s10, NOT_FROZEN)
+CASE_ALL("BPFRZ is no LCOFIFRZ"); OVERFLOW(CTL_U | CTL_M | CTL_BPFRZ, 0, 0, 0, ENTER_U, ROW(90b, 1b, TRAPRET); ROW(1b, ctr_mtrap, INTERRUPT), s10, NOT_FROZEN)
+CASE("LCOFIFRZ, from U into S"); OVERFLOW(CTL_U | CTL_S | CTL_LCOFIFRZ, 0, LCOFI, 0, ENTER_U, NONE, s8, IS_FROZEN)
 // covers: freeze-overflow freeze-modes
-OVERFLOW("LCOFIFRZ, from U into S, neither enabled", CTL_LCOFIFRZ, 0, LCOFI, 0, ENTER_U, NONE, s8, IS_FROZEN)
+CASE("LCOFIFRZ, from U into S, neither enabled"); OVERFLOW(CTL_LCOFIFRZ, 0, LCOFI, 0, ENTER_U, NONE, s8, IS_FROZEN)
 // covers: freeze-unfiltered
-OVERFLOW("LCOFIFRZ with INTRINH", CTL_U | CTL_M | CTL_LCOFIFRZ | CTL_INTRINH, 0, 0, 0, ENTER_U, ROW(90b, 1b, TRAPRET), s10, IS_FROZEN)
-OVERFLOW("LCOFIFRZ under return-stack emulation", CTL_U | CTL_M | CTL_LCOFIFRZ | CTL_RASEMU, 0, 0, 0, ENTER_U, NONE, s10, IS_FROZEN)
-OVERFLOW("LCOFIFRZ, an external trap: nothing of it is recorded", CTL_U | CTL_LCOFIFRZ | CTL_STE | CTL_MTE, 0, 0, 0, ENTER_U, NONE, s10, IS_FROZEN)
+CASE_ALL("LCOFIFRZ with INTRINH"); OVERFLOW(CTL_U | CTL_M | CTL_LCOFIFRZ | CTL_INTRINH, 0, 0, 0, ENTER_U, ROW(90b, 1b, TRAPRET), s10, IS_FROZEN)
+CASE_ALL("LCOFIFRZ under return-stack emulation"); OVERFLOW(CTL_U | CTL_M | CTL_LCOFIFRZ | CTL_RASEMU, 0, 0, 0, ENTER_U, NONE, s10, IS_FROZEN)
+CASE_ALL("LCOFIFRZ, an external trap: nothing of it is recorded"); OVERFLOW(CTL_U | CTL_LCOFIFRZ | CTL_STE | CTL_MTE, 0, 0, 0, ENTER_U, NONE, s10, IS_FROZEN)
 // covers: freeze-others
-CASE("LCOFIFRZ, another interrupt doesn't freeze")
+CASE_ALL("LCOFIFRZ, another interrupt doesn't freeze")
         csrwi   mie, 2
         csrsi   mip, 2
         START(CTL_U | CTL_M | CTL_LCOFIFRZ, 0, 8f)
@@ -164,7 +164,7 @@ CASE("LCOFIFRZ, another interrupt doesn't freeze")
         NOT_FROZEN(s4)
 ENDCASE
 // covers: freeze-overflow guest-freezes
-CASE("vsctrctl.LCOFIFRZ, from VU into VS")
+CASE_ALL("vsctrctl.LCOFIFRZ, from VU into VS")
         NEED(HAS_VLCOFI)
         DELEGATE_INT(LCOFI, LCOFI)
         li      t0, LCOFI
@@ -182,7 +182,7 @@ CASE("vsctrctl.LCOFIFRZ, from VU into VS")
         END_LIST
         IS_FROZEN(s4)
 ENDCASE
-CASE("mctrctl.LCOFIFRZ isn't that of VS")
+CASE_OR("mctrctl.LCOFIFRZ isn't that of VS", "sctrctl.LCOFIFRZ isn't that of VS")
         NEED(HAS_VLCOFI)
         DELEGATE_INT(LCOFI, LCOFI)
         li      t0, LCOFI
@@ -232,7 +232,7 @@ CASE("mctrctl.LCOFIFRZ, from VU into HS, and not vsctrctl.LCOFIFRZ")
         NOT_FROZEN(s4)
 ENDCASE
 // covers: freeze-others
-CASE("a pending overflow that isn't taken doesn't freeze")
+CASE_ALL("a pending overflow that isn't taken doesn't freeze")
         NEED(HAS_LCOFI)
         START_M(CTL_M | CTL_LCOFIFRZ)
         li      t0, LCOFI
@@ -246,7 +246,7 @@ CASE("a pending overflow that isn't taken doesn't freeze")
         CHECK_CSR(sctrstatus, 1)
 ENDCASE
 // covers: freeze-stops freeze-stays
-CASE("after a freeze nothing is recorded in any mode, until software clears FROZEN")
+CASE_ALL("after a freeze nothing is recorded in any mode, until software clears FROZEN")
         START(CTL_M | CTL_U | CTL_BPFRZ, 0, 8f)
         LIST
         ENTER_U(1f)
@@ -283,7 +283,7 @@ CASE("FROZEN set in S stops recording in S, in U and in M")
         ROW(90b, 1b, TRAPRET)
         END_LIST
 ENDCASE
-CASE("FROZEN set in VS stops recording there, and cleared there starts it")
+CASE_ALL("FROZEN set in VS stops recording there, and cleared there starts it")
         NEED(HAS_H)
         START(0, CTL_VS, 8f)
         ENTER_VS(1f)

@@ -2,40 +2,40 @@
 #include "ctr.h"
 
 // The supervisor software interrupt, pended before the mode is entered; taken in M, or in HS where it is delegated.
-#define INTERRUPT_IN(name, controls, mid, ENTER, rows) \
-CASE(name); DELEGATE_INT(mid, 0); csrwi mie, 2; csrsi mip, 2; csrsi mstatus, 2; \
+#define INTERRUPT_IN(controls, mid, ENTER, rows) \
+        DELEGATE_INT(mid, 0); csrwi mie, 2; csrsi mip, 2; csrsi mstatus, STATUS_SIE & ~STATUS_HOME_IE; \
         START(controls, 0, 8f); ENTER(1f); \
 1:      nop; ecall; \
-8:      csrci mip, 2; csrci mstatus, 2; LIST; rows; END_LIST; ENDCASE
+8:      csrci mip, 2; csrci mstatus, STATUS_SIE; LIST; rows; END_LIST; ENDCASE
 
 TESTS(25000)
 // covers: trap-whole type-interrupt trap-source
-INTERRUPT_IN("U to M", CTL_U | CTL_M, 0, ENTER_U, ROW(90b, 1b, TRAPRET); ROW(1b, ctr_mtrap, INTERRUPT))
+CASE_OR("U to M", "U to S"); INTERRUPT_IN(CTL_U | CTL_M, 0, ENTER_U, ROW(90b, 1b, TRAPRET); ROW(1b, ctr_mtrap, INTERRUPT))
 // covers: trap-into trap-out
-INTERRUPT_IN("U to M, M enabled: without source", CTL_M, 0, ENTER_U, ROW(90b, 0, TRAPRET); ROW(0, ctr_mtrap, INTERRUPT))
-INTERRUPT_IN("U to M, U enabled: nothing", CTL_U, 0, ENTER_U, NONE)
+CASE_OR("U to M, M enabled: without source", "U to S, S enabled: without source"); INTERRUPT_IN(CTL_M, 0, ENTER_U, ROW(90b, 0, TRAPRET); ROW(0, ctr_mtrap, INTERRUPT))
+CASE_OR("U to M, U enabled: nothing", "U to S, U enabled: nothing"); INTERRUPT_IN(CTL_U, 0, ENTER_U, NONE)
 // covers: trap-whole type-interrupt
-INTERRUPT_IN("S to M", CTL_S | CTL_M, 0, ENTER_S, ROW(90b, 1b, TRAPRET); ROW(1b, ctr_mtrap, INTERRUPT))
-INTERRUPT_IN("U to S", CTL_U | CTL_S, 2, ENTER_U, ROW(1b, ctr_strap, INTERRUPT))
+CASE("S to M"); INTERRUPT_IN(CTL_S | CTL_M, 0, ENTER_S, ROW(90b, 1b, TRAPRET); ROW(1b, ctr_mtrap, INTERRUPT))
+CASE("U to S"); INTERRUPT_IN(CTL_U | CTL_S, 2, ENTER_U, ROW(1b, ctr_strap, INTERRUPT))
 // covers: trap-into trap-out
-INTERRUPT_IN("U to S, S enabled: without source", CTL_S, 2, ENTER_U, ROW(0, ctr_strap, INTERRUPT))
-INTERRUPT_IN("U to S, U enabled: nothing", CTL_U, 2, ENTER_U, NONE)
+CASE("U to S, S enabled: without source"); INTERRUPT_IN(CTL_S, 2, ENTER_U, ROW(0, ctr_strap, INTERRUPT))
+CASE("U to S, U enabled: nothing"); INTERRUPT_IN(CTL_U, 2, ENTER_U, NONE)
 // covers: trap-whole
-INTERRUPT_IN("within S", CTL_S, 2, ENTER_S, ROW(1b, ctr_strap, INTERRUPT))
+CASE("within S"); INTERRUPT_IN(CTL_S, 2, ENTER_S, ROW(1b, ctr_strap, INTERRUPT))
 // covers: filter-traps
-INTERRUPT_IN("INTRINH leaves interrupts out", CTL_U | CTL_M | CTL_INTRINH, 0, ENTER_U, ROW(90b, 1b, TRAPRET))
-INTERRUPT_IN("EXCINH leaves interrupts in", CTL_U | CTL_M | CTL_EXCINH, 0, ENTER_U, ROW(90b, 1b, TRAPRET); ROW(1b, ctr_mtrap, INTERRUPT))
-INTERRUPT_IN("INTRINH leaves interrupts out of a mode that isn't enabled too", CTL_M | CTL_INTRINH, 0, ENTER_U, ROW(90b, 0, TRAPRET))
+CASE_ALL("INTRINH leaves interrupts out"); INTERRUPT_IN(CTL_U | CTL_M | CTL_INTRINH, 0, ENTER_U, ROW(90b, 1b, TRAPRET))
+CASE_ALL("EXCINH leaves interrupts in"); INTERRUPT_IN(CTL_U | CTL_M | CTL_EXCINH, 0, ENTER_U, ROW(90b, 1b, TRAPRET); ROW(1b, ctr_mtrap, INTERRUPT))
+CASE_ALL("INTRINH leaves interrupts out of a mode that isn't enabled too"); INTERRUPT_IN(CTL_M | CTL_INTRINH, 0, ENTER_U, ROW(90b, 0, TRAPRET))
 // covers: trap-whole trap-source
-CASE("within M")
+CASE_OR("within M", "within S")
         csrwi   mie, 2
         START(CTL_M, 0, 8f)
-        csrsi   mstatus, 8              // MIE
+        csrsi   mstatus, STATUS_HOME_IE
         csrsi   mip, 2                  // comes before the next instruction
 1:      nop
         HALT
 8:      csrci   mip, 2
-        csrci   mstatus, 8
+        csrci   mstatus, STATUS_HOME_IE
         LIST
         ROW(1b, ctr_mtrap, INTERRUPT)
         END_LIST
@@ -70,11 +70,11 @@ vectors:
         END_LIST
 ENDCASE
 // covers: trap-whole guest-enables
-CASE("VU to VS")
+CASE_ALL("VU to VS")
         NEED(HAS_H)
         DELEGATE_INT(0, 4)
         li      t0, 4
-        csrw    mie, t0
+        csrw    guest_ie, t0
         csrw    hvip, t0
         START(0, CTL_VU | CTL_VS, 8f)
         ENTER_VU(1f)
@@ -86,11 +86,11 @@ CASE("VU to VS")
         END_LIST
 ENDCASE
 // covers: guest-filters filter-traps
-CASE("VU to VS, vsctrctl.INTRINH: nothing")
+CASE_ALL("VU to VS, vsctrctl.INTRINH: nothing")
         NEED(HAS_H)
         DELEGATE_INT(0, 4)
         li      t0, 4
-        csrw    mie, t0
+        csrw    guest_ie, t0
         csrw    hvip, t0
         START(0, CTL_VU | CTL_VS | CTL_INTRINH, 8f)
         ENTER_VU(1f)
@@ -137,11 +137,11 @@ CASE("VS to HS, by vsctrctl.INTRINH alone")
         END_LIST
 ENDCASE
 // covers: guest-filters filter-traps
-CASE("VU to VS, mctrctl.INTRINH doesn't count")
+CASE_OR("VU to VS, mctrctl.INTRINH doesn't count", "VU to VS, sctrctl.INTRINH doesn't count")
         NEED(HAS_H)
         DELEGATE_INT(0, VSSI)
         li      t0, VSSI
-        csrw    mie, t0
+        csrw    guest_ie, t0
         csrw    hvip, t0
         START(CTL_INTRINH, CTL_VU | CTL_VS, 8f)
         ENTER_VU(1f)
@@ -153,11 +153,11 @@ CASE("VU to VS, mctrctl.INTRINH doesn't count")
         END_LIST
 ENDCASE
 // covers: trap-into trap-out guest-enables
-CASE("VU to VS, VS enabled: without source; VU enabled: nothing")
+CASE_ALL("VU to VS, VS enabled: without source; VU enabled: nothing")
         NEED(HAS_H)
         DELEGATE_INT(0, VSSI)
         li      t0, VSSI
-        csrw    mie, t0
+        csrw    guest_ie, t0
         csrw    hvip, t0
         START(0, CTL_VS, 8f)
         ENTER_VU(1f)
@@ -179,11 +179,11 @@ CASE("VU to VS, VS enabled: without source; VU enabled: nothing")
         CHECK_CSR(mcause, ECALL_VS)
 ENDCASE
 // covers: trap-whole guest-enables
-CASE("within VS")
+CASE_ALL("within VS")
         NEED(HAS_H)
         DELEGATE_INT(0, VSSI)
         li      t0, VSSI
-        csrw    mie, t0
+        csrw    guest_ie, t0
         csrw    hvip, t0
         li      t0, STATUS_SIE
         csrw    vsstatus, t0
@@ -248,7 +248,7 @@ ENDCASE
 CASE("the timer and the external interrupt of VS, VU to VS and VU to HS")
         NEED(HAS_H)
         li      s4, VSTI
-1:      csrw    mie, s4
+1:      csrw    guest_ie, s4
         csrw    hideleg, s4
         csrw    hvip, s4
         START(0, CTL_VU | CTL_VS, 8f)
@@ -277,9 +277,9 @@ CASE("the timer and the external interrupt of VS, VU to VS and VU to HS")
 4:      csrw    hideleg, x0
 ENDCASE
 // covers: recorded-alone
-CASE("an interrupt that is pending and not taken leaves no record")
+CASE_ALL("an interrupt that is pending and not taken leaves no record")
         csrwi   mie, SSI
-        START_M(CTL_M)                  // MIE is clear
+        START_M(CTL_M)                  // interrupts are off here
         csrsi   mip, SSI
         LIST
 1:      j       2f

@@ -56,7 +56,7 @@
 
 TESTS(100000)
 // covers: type-direct
-CASE("JAL is a direct call, jump or other jump by its rd")
+CASE_ALL("JAL is a direct call, jump or other jump by its rd")
         START_M(CTL_M)
         LIST
         .irp    rd, 0, 1, 2, 3, 4, 5, 6, 7, 8, 9, 10, 11, 12, 13, 14, 15
@@ -74,22 +74,22 @@ CASE("JAL is a direct call, jump or other jump by its rd")
         END_LIST
 ENDCASE
 // covers: type-indirect
-CASE("JALR with rd x0 is an indirect jump or a return")
+CASE_ALL("JALR with rd x0 is an indirect jump or a return")
         jalr_rows 0
 ENDCASE
-CASE("JALR with rd x1 is an indirect call, or a swap from x5")
+CASE_ALL("JALR with rd x1 is an indirect call, or a swap from x5")
         jalr_rows 1
 ENDCASE
-CASE("JALR with rd x5 is an indirect call, or a swap from x1")
+CASE_ALL("JALR with rd x5 is an indirect call, or a swap from x1")
         jalr_rows 5
 ENDCASE
-CASE("JALR with another rd is another jump with linkage, or a return")
+CASE_ALL("JALR with another rd is another jump with linkage, or a return")
         .irp    rd, 2, 3, 4, 6, 7, 8, 9, 10, 11, 12, 13, 14, 15, 16, 17, 18, 19, 20, 21, 22, 23, 24, 25, 26, 27, 28, 29, 30, 31
         jalr_rows \rd
         .endr
 ENDCASE
 // covers: recorded-source recorded-target
-CASE("jumps backward and with an offset")
+CASE_ALL("jumps backward and with an offset")
         START_M(CTL_M)
         LIST
 1:      j       4f
@@ -106,7 +106,7 @@ CASE("jumps backward and with an offset")
 6:      HALT
         END_LIST
 ENDCASE
-CASE("the target of JALR has bit 0 cleared")
+CASE_ALL("the target of JALR has bit 0 cleared")
         START_M(CTL_M)
         LIST
         la      x6, 2f + 1
@@ -118,7 +118,7 @@ CASE("the target of JALR has bit 0 cleared")
 4:      HALT
         END_LIST
 ENDCASE
-CASE("JALR by the register that it writes: the target is that of the old value")
+CASE_ALL("JALR by the register that it writes: the target is that of the old value")
         START_M(CTL_M)
         LIST
         la      x1, 2f
@@ -130,7 +130,7 @@ CASE("JALR by the register that it writes: the target is that of the old value")
 4:      HALT
         END_LIST
 ENDCASE
-CASE("the longest jumps that fit here, forward and back")
+CASE_ALL("the longest jumps that fit here, forward and back")
         START_M(CTL_M)
         LIST
 1:      jal     x1, 3f
@@ -144,7 +144,7 @@ CASE("the longest jumps that fit here, forward and back")
         END_LIST
 ENDCASE
 // covers: recorded-target trap-source
-CASE("a jump out of memory: its target, and the exception of the fetch there")
+CASE_ALL("a jump out of memory: its target, and the exception of the fetch there")
         NEED(HAS_NOWHERE)
         START(CTL_M | CTL_U, 0, 8f)
         la      s5, ctr_nowhere
@@ -165,7 +165,7 @@ CASE("a jump out of memory: its target, and the exception of the fetch there")
         call    ctr_check_entry
 ENDCASE
 // covers: recorded-alone
-CASE("what is no transfer leaves no record")
+CASE_ALL("what is no transfer leaves no record")
         START_M(CTL_M)
         nop
         la      t0, ctr_scratch

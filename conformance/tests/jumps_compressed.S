@@ -11,7 +11,7 @@
 
 TESTS(15000)
 // covers: type-compressed
-CASE("C.J is a direct jump")
+CASE_ALL("C.J is a direct jump")
         NEED(HAS_C)
         START_M(CTL_M)
         LIST
@@ -26,7 +26,7 @@ CASE("C.J is a direct jump")
         HALT
         END_LIST
 ENDCASE
-CASE("C.JR is an indirect jump, or a return through x1 or x5")
+CASE_ALL("C.JR is an indirect jump, or a return through x1 or x5")
         NEED(HAS_C)
         START_M(CTL_M)
         LIST
@@ -45,7 +45,7 @@ CASE("C.JR is an indirect jump, or a return through x1 or x5")
         HALT
         END_LIST
 ENDCASE
-CASE("C.JALR is an indirect call, or a swap through x5")
+CASE_ALL("C.JALR is an indirect call, or a swap through x5")
         NEED(HAS_C)
         START_M(CTL_M)
         LIST
@@ -64,7 +64,7 @@ CASE("C.JALR is an indirect call, or a swap through x5")
         HALT
         END_LIST
 ENDCASE
-CASE("C.BEQZ and C.BNEZ, taken and not")
+CASE_ALL("C.BEQZ and C.BNEZ, taken and not")
         NEED(HAS_C)
         START_M(CTL_M | CTL_NTBREN)
         LIST
@@ -79,7 +79,7 @@ CASE("C.BEQZ and C.BNEZ, taken and not")
         END_LIST
 ENDCASE
 // covers: freeze-breakpoint
-CASE("C.EBREAK freezes as EBREAK does")
+CASE_ALL("C.EBREAK freezes as EBREAK does")
         NEED(HAS_C)
         START(CTL_M | CTL_U | CTL_BPFRZ, 0, 8f)
         ENTER_U(1f)

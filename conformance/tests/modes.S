@@ -14,31 +14,31 @@
 
 TESTS(130000)
 // covers: recorded-mode
-CASE("M, by mctrctl.M")
-        SETS(7, 0, 0, CTL_M, run_m, list_m)
+CASE_OR("M, by mctrctl.M", "S, by sctrctl.S")
+        SETS(CTL_M | CTL_BETWEEN | CTL_U, 0, 0, CTL_M, run_m, list_m)
 ENDCASE
 CASE("S, by mctrctl.S")
         SETS(3, 0, 0, CTL_S, run_s, list_s)
 ENDCASE
-CASE("U, by mctrctl.U")
-        SETS(3, 0, 0, CTL_U, run_u, list_u)
+CASE_OR("U, by mctrctl.U", "U, by sctrctl.U")
+        SETS(CTL_BETWEEN | CTL_U, 0, 0, CTL_U, run_u, list_u)
 ENDCASE
 // covers: recorded-mode guest-enables
 CASE("S whatever vsctrctl says")
         NEED(HAS_H)
         SETS(3, 3, 0, CTL_S, run_s, list_s)
 ENDCASE
-CASE("U whatever vsctrctl says")
+CASE_ALL("U whatever vsctrctl says")
         NEED(HAS_H)
-        SETS(3, 3, 0, CTL_U, run_u, list_u)
+        SETS(CTL_BETWEEN | CTL_U, 3, 0, CTL_U, run_u, list_u)
 ENDCASE
-CASE("VS, by vsctrctl.S")
+CASE_ALL("VS, by vsctrctl.S")
         NEED(HAS_H)
-        SETS(3, 3, 1, CTL_VS, run_vs, list_vs)
+        SETS(CTL_BETWEEN | CTL_U, 3, 1, CTL_VS, run_vs, list_vs)
 ENDCASE
-CASE("VU, by vsctrctl.U")
+CASE_ALL("VU, by vsctrctl.U")
         NEED(HAS_H)
-        SETS(3, 3, 1, CTL_VU, run_vu, list_vu)
+        SETS(CTL_BETWEEN | CTL_U, 3, 1, CTL_VU, run_vu, list_vu)
 ENDCASE
 // covers: control-at-once supervisor-write
 CASE("S by a write of sctrctl in S, from the next instruction on")
@@ -55,7 +55,7 @@ CASE("S by a write of sctrctl in S, from the next instruction on")
 8:      END_LIST
 ENDCASE
 // covers: control-at-once guest-control-view
-CASE("VS by a write of sctrctl in VS, which is vsctrctl there")
+CASE_ALL("VS by a write of sctrctl in VS, which is vsctrctl there")
         NEED(HAS_H)
         START(0, 0, 8f)
         ENTER_VS(1f)
@@ -72,7 +72,7 @@ CASE("VS by a write of sctrctl in VS, which is vsctrctl there")
         CHECK_CSR(vsctrctl, 0)
 ENDCASE
 // covers: control-at-once
-CASE("M by a write of mctrctl, from the next instruction on, and up to the write that ends it")
+CASE_OR("M by a write of mctrctl, from the next instruction on, and up to the write that ends it", "S by a write of sctrctl, from the next instruction on, and up to the write that ends it")
         START_M(0)
         LIST
 1:      j       2f

@@ -71,48 +71,48 @@ compare:
 
 TESTS(140000)
 // covers: recorded-order recorded-pointer entry-numbers
-CASE("depth 16, a few")
+CASE_ALL("depth 16, a few")
         AT(0, 5, 0)
 ENDCASE
 // covers: recorded-order recorded-pointer recorded-lost
-CASE("depth 16, one less than full, full, one more, two more")
+CASE_ALL("depth 16, one less than full, full, one more, two more")
         AT(0, 14, 0)
         AT(0, 15, 0)
         AT(0, 16, 0)
         AT(0, 17, 0)
 ENDCASE
-CASE("depth 16, from other places of WRPTR")
+CASE_ALL("depth 16, from other places of WRPTR")
         AT(0, 3, 1)
         AT(0, 3, 14)
         AT(0, 3, 15)
         AT(0, 40, 9)
 ENDCASE
-CASE("depth 32")
+CASE_ALL("depth 32")
         AT(1, 20, 30)
         AT(1, 31, 0)
         AT(1, 32, 31)
         AT(1, 70, 5)
 ENDCASE
-CASE("depth 64")
+CASE_ALL("depth 64")
         AT(2, 40, 60)
         AT(2, 63, 0)
         AT(2, 64, 63)
         AT(2, 130, 5)
 ENDCASE
-CASE("depth 128")
+CASE_ALL("depth 128")
         AT(3, 100, 100)
         AT(3, 127, 0)
         AT(3, 128, 127)
         AT(3, 260, 5)
 ENDCASE
-CASE("depth 256")
+CASE_ALL("depth 256")
         AT(4, 200, 250)
         AT(4, 255, 0)
         AT(4, 256, 255)
         AT(4, 519, 5)
 ENDCASE
 // covers: entry-numbers pointer-holds
-CASE("a write of WRPTR turns the entries")
+CASE_ALL("a write of WRPTR turns the entries")
         START_M(CTL_M)
 1:      j       2f
 2:      j       3f
@@ -133,7 +133,7 @@ CASE("a write of WRPTR turns the entries")
         END_LIST
 ENDCASE
 // covers: entry-numbers recorded-pointer
-CASE("a record after a write of WRPTR goes to where it points")
+CASE_ALL("a record after a write of WRPTR goes to where it points")
         START_M(CTL_M)
 1:      j       2f
 2:      j       3f
@@ -147,7 +147,7 @@ CASE("a record after a write of WRPTR goes to where it points")
         CHECK_CSR(sctrstatus, 2)
 ENDCASE
 // covers: recorded-order recorded-pointer
-CASE("WRPTR after each record, all the way round")
+CASE_ALL("WRPTR after each record, all the way round")
         GREATEST_DEPTH
         START_M(CTL_M)
         li      s5, 0                   // how many jumps there were
@@ -168,7 +168,7 @@ CASE("WRPTR after each record, all the way round")
         CHECK_EQ(s1, 0)
 ENDCASE
 // covers: registers-apart recorded-order
-CASE("a write of a control leaves the entries")
+CASE_ALL("a write of a control leaves the entries")
         START_M(CTL_M)
         LIST
 1:      j       2f

@@ -8,7 +8,7 @@
 
 TESTS(25000)
 // covers: emulation-call
-CASE("calls are recorded, by both kinds")
+CASE_ALL("calls are recorded, by both kinds")
         START_M(CTL_M | CTL_RASEMU)
         LIST
 1:      jal     x1, 2f
@@ -23,7 +23,7 @@ CASE("calls are recorded, by both kinds")
         CHECK_CSR(sctrstatus, 3)
 ENDCASE
 // covers: emulation-return
-CASE("a return takes the youngest entry away")
+CASE_ALL("a return takes the youngest entry away")
         START_M(CTL_M | CTL_RASEMU)
         LIST
 1:      CALL(2f)
@@ -36,7 +36,7 @@ CASE("a return takes the youngest entry away")
         END_LIST
         CHECK_CSR(sctrstatus, 2)
 ENDCASE
-CASE("a call after a return takes the place of the entry that went")
+CASE_ALL("a call after a return takes the place of the entry that went")
         START_M(CTL_M | CTL_RASEMU)
         LIST
 1:      CALL(2f)
@@ -50,7 +50,7 @@ CASE("a call after a return takes the place of the entry that went")
         CHECK_CSR(sctrstatus, 2)
 ENDCASE
 // covers: emulation-swap
-CASE("a co-routine swap replaces the youngest entry and leaves WRPTR")
+CASE_ALL("a co-routine swap replaces the youngest entry and leaves WRPTR")
         START_M(CTL_M | CTL_RASEMU)
         LIST
 1:      CALL(2f)
@@ -63,7 +63,7 @@ CASE("a co-routine swap replaces the youngest entry and leaves WRPTR")
         END_LIST
         CHECK_CSR(sctrstatus, 2)
 ENDCASE
-CASE("the other co-routine swap, from x5 to x1")
+CASE_ALL("the other co-routine swap, from x5 to x1")
         START_M(CTL_M | CTL_RASEMU)
         LIST
 1:      CALL(2f)
@@ -75,7 +75,7 @@ CASE("the other co-routine swap, from x5 to x1")
         CHECK_CSR(sctrstatus, 1)
 ENDCASE
 // covers: emulation-others
-CASE("jumps, branches and other links are no calls")
+CASE_ALL("jumps, branches and other links are no calls")
         START_M(CTL_M | CTL_RASEMU | CTL_NTBREN)
         LIST
 1:      CALL(2f)
@@ -93,7 +93,7 @@ CASE("jumps, branches and other links are no calls")
         CHECK_CSR(sctrstatus, 1)
 ENDCASE
 // covers: emulation-empty
-CASE("a return of an empty stack leaves it empty, and WRPTR wraps below 0")
+CASE_ALL("a return of an empty stack leaves it empty, and WRPTR wraps below 0")
         START_M(CTL_M | CTL_RASEMU)
         RETURN_TO(1f)
 1:      HALT
@@ -106,7 +106,7 @@ CASE("a return of an empty stack leaves it empty, and WRPTR wraps below 0")
         csrr    t0, sctrstatus
         CHECK_REGS(t0, t1)
 ENDCASE
-CASE("a co-routine swap on an empty stack is recorded and leaves WRPTR")
+CASE_ALL("a co-routine swap on an empty stack is recorded and leaves WRPTR")
         START_M(CTL_M | CTL_RASEMU)
         LIST
         la      x5, 2f
@@ -117,7 +117,7 @@ CASE("a co-routine swap on an empty stack is recorded and leaves WRPTR")
         CHECK_CSR(sctrstatus, 0)
 ENDCASE
 // covers: emulation-stack recorded-lost
-CASE("more calls than there are entries: the oldest are lost and don't come back")
+CASE_ALL("more calls than there are entries: the oldest are lost and don't come back")
         START_M(CTL_M | CTL_RASEMU)
         ENTRIES_IN_S4
         addi    t2, s4, 2
@@ -134,7 +134,7 @@ CASE("more calls than there are entries: the oldest are lost and don't come back
         END_LIST
         CHECK_CSR(sctrstatus, 1)
 ENDCASE
-CASE("as many returns as entries but one leave the oldest that is there")
+CASE_ALL("as many returns as entries but one leave the oldest that is there")
         START_M(CTL_M | CTL_RASEMU)
         LIST
         ENTRIES_IN_S4
@@ -154,7 +154,7 @@ CASE("as many returns as entries but one leave the oldest that is there")
         END_LIST
 ENDCASE
 // covers: emulation-filters
-CASE("filter bits don't count")
+CASE_ALL("filter bits don't count")
         la      t0, begin_signature
         ld      a0, R_MCTRCTL(t0)
         li      a1, CTL_JUMPS
@@ -178,7 +178,7 @@ CASE("filter bits don't count")
         END_LIST
 ENDCASE
 // covers: emulation-traps
-CASE("traps and returns from them aren't recorded")
+CASE_ALL("traps and returns from them aren't recorded")
         START(CTL_M | CTL_U | CTL_RASEMU, 0, 8f)
         ENTER_U(1f)
 1:      CALL(2f)
@@ -188,7 +188,7 @@ CASE("traps and returns from them aren't recorded")
         END_LIST
         CHECK_CSR(sctrstatus, 1)        // neither the MRET nor the trap moved WRPTR
 ENDCASE
-CASE("nor is an external trap")
+CASE_ALL("nor is an external trap")
         START(CTL_U | CTL_RASEMU | CTL_STE | CTL_MTE, 0, 8f)
         ENTER_U(1f)
 1:      CALL(2f)
@@ -211,7 +211,7 @@ CASE("a return in a mode that isn't enabled takes nothing away")
         END_LIST
 ENDCASE
 // covers: emulation-mode guest-emulation
-CASE("VS by vsctrctl.RASEMU")
+CASE_ALL("VS by vsctrctl.RASEMU")
         NEED(HAS_H)
         START(0, CTL_VS | CTL_RASEMU, 8f)
         ENTER_VS(1f)
@@ -224,7 +224,7 @@ CASE("VS by vsctrctl.RASEMU")
         ROW(1b, 2b, DIRCALL)
         END_LIST
 ENDCASE
-CASE("mctrctl.RASEMU isn't that of VS")
+CASE_OR("mctrctl.RASEMU isn't that of VS", "sctrctl.RASEMU isn't that of VS")
         NEED(HAS_H)
         START(CTL_RASEMU, CTL_VS, 8f)
         ENTER_VS(1f)
@@ -237,7 +237,7 @@ CASE("mctrctl.RASEMU isn't that of VS")
         END_LIST
 ENDCASE
 // covers: emulation-return emulation-mode
-CASE("switched on over plain records: a return takes the youngest of any type away")
+CASE_ALL("switched on over plain records: a return takes the youngest of any type away")
         NEED_CTL(CTL_RASEMU, 0)
         START_M(CTL_M)
         LIST
@@ -277,7 +277,7 @@ handler:
         CHECK_CSR(sctrstatus, 2)
 ENDCASE
 // covers: emulation-others
-CASE("branches and jumps leave a stack of two as it is, and WRPTR")
+CASE_ALL("branches and jumps leave a stack of two as it is, and WRPTR")
         START_M(CTL_M | CTL_RASEMU)
         LIST
 1:      CALL(2f)
@@ -296,7 +296,7 @@ CASE("branches and jumps leave a stack of two as it is, and WRPTR")
         CHECK_CSR(sctrstatus, 2)
 ENDCASE
 // covers: emulation-return
-CASE("a return by x1, one by x5, and one that links to another register")
+CASE_ALL("a return by x1, one by x5, and one that links to another register")
         START_M(CTL_M | CTL_RASEMU)
         LIST
 1:      CALL(2f)
@@ -315,7 +315,7 @@ CASE("a return by x1, one by x5, and one that links to another register")
         CHECK_CSR(sctrstatus, 1)
 ENDCASE
 // covers: emulation-call emulation-swap
-CASE("JALR by the link register that it writes is a call, not a swap")
+CASE_ALL("JALR by the link register that it writes is a call, not a swap")
         START_M(CTL_M | CTL_RASEMU)
         LIST
 1:      CALL(2f)
@@ -331,7 +331,7 @@ CASE("JALR by the link register that it writes is a call, not a swap")
         CHECK_CSR(sctrstatus, 3)
 ENDCASE
 // covers: emulation-swap
-CASE("a swap as the oldest entry of a full buffer, and a second swap over the first")
+CASE_ALL("a swap as the oldest entry of a full buffer, and a second swap over the first")
         START_M(CTL_M | CTL_RASEMU)
         LIST
 1:      CALL(2f)
@@ -347,7 +347,7 @@ CASE("a swap as the oldest entry of a full buffer, and a second swap over the fi
         CHECK_CSR(sctrstatus, 2)
 ENDCASE
 // covers: emulation-stack
-CASE("the calls that haven't returned, the youngest first")
+CASE_ALL("the calls that haven't returned, the youngest first")
         START_M(CTL_M | CTL_RASEMU)     // calls to a, b and c, a return, a swap to d, a call to e, and its return
         LIST
 1:      CALL(2f)                        // a
@@ -365,7 +365,7 @@ CASE("the calls that haven't returned, the youngest first")
         CHECK_CSR(sctrstatus, 2)
 ENDCASE
 // covers: emulation-empty
-CASE("calls after returns of an empty stack")
+CASE_ALL("calls after returns of an empty stack")
         START_M(CTL_M | CTL_RASEMU)
         LIST
         RETURN_TO(1f)
@@ -380,7 +380,7 @@ CASE("calls after returns of an empty stack")
         CHECK_REGS(t0, s4)
 ENDCASE
 // covers: emulation-mode guest-emulation
-CASE("VU by vsctrctl.RASEMU, whatever mctrctl.RASEMU says")
+CASE_OR("VU by vsctrctl.RASEMU, whatever mctrctl.RASEMU says", "VU by vsctrctl.RASEMU, whatever sctrctl.RASEMU says")
         NEED(HAS_H)
         START(0, CTL_VU | CTL_RASEMU, 8f)
         ENTER_VU(1f)
@@ -430,7 +430,7 @@ CASE("S and U by mctrctl.RASEMU, whatever vsctrctl.RASEMU says")
         END_LIST
 ENDCASE
 // covers: guest-emulation emulation-traps
-CASE("under vsctrctl.RASEMU neither a return into the guest nor a trap out of it is recorded")
+CASE_ALL("under vsctrctl.RASEMU neither a return into the guest nor a trap out of it is recorded")
         NEED(HAS_H)
         START(CTL_M, CTL_VS | CTL_RASEMU, 8f)
         ENTER_VS(1f)

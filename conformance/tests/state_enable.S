@@ -103,7 +103,7 @@ CASE("mstateen0.CTR 0: S is recorded all the same")
         END_LIST
 ENDCASE
 // covers: state-guest
-CASE("hstateen0.CTR 0: VS is refused, virtual instructions")
+CASE_ALL("hstateen0.CTR 0: VS is refused, virtual instructions")
         NEED(HAS_STATEEN | HAS_H)
         DISABLE_H
         PREPARE(8f)
@@ -125,7 +125,7 @@ CASE("hstateen0.CTR 0: S isn't refused")
         EXPECT(0, 8, -1)
 ENDCASE
 // covers: state-records
-CASE("hstateen0.CTR 0: VS is recorded all the same")
+CASE_ALL("hstateen0.CTR 0: VS is recorded all the same")
         NEED(HAS_STATEEN | HAS_H)
         DISABLE_H
         START(0, CTL_VS, 8f)

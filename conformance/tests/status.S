@@ -9,23 +9,23 @@
 
 TESTS(25000)
 // covers: pointer-holds pointer-rest
-CASE("WRPTR at depth 16")
+CASE_ALL("WRPTR at depth 16")
         EACH_WRPTR(0)
 ENDCASE
-CASE("WRPTR at depth 32")
+CASE_ALL("WRPTR at depth 32")
         EACH_WRPTR(1)
 ENDCASE
-CASE("WRPTR at depth 64")
+CASE_ALL("WRPTR at depth 64")
         EACH_WRPTR(2)
 ENDCASE
-CASE("WRPTR at depth 128")
+CASE_ALL("WRPTR at depth 128")
         EACH_WRPTR(3)
 ENDCASE
-CASE("WRPTR at depth 256")
+CASE_ALL("WRPTR at depth 256")
         EACH_WRPTR(4)
 ENDCASE
 // covers: frozen-holds
-CASE("FROZEN can be set and cleared")
+CASE_ALL("FROZEN can be set and cleared")
         li      t0, FROZEN
         csrw    sctrstatus, t0
         csrr    t0, sctrstatus
@@ -43,7 +43,7 @@ CASE("FROZEN can be set and cleared")
         CHECK_CSR(sctrstatus, 3)
 ENDCASE
 // covers: status-guest
-CASE("VS has the same register")
+CASE_ALL("VS has the same register")
         NEED(HAS_H)
         csrwi   sctrstatus, 5
         AFTER(8f)
@@ -79,7 +79,7 @@ CASE("S and VS can set and clear FROZEN")
         CHECK_EQ(s5, 0)
 ENDCASE
 // covers: registers-apart
-CASE("a write of sctrstatus leaves the controls, the depth and the selects")
+CASE_ALL("a write of sctrstatus leaves the controls, the depth and the selects")
         li      t0, CTL_S | CTL_BPFRZ
         csrw    mctrctl, t0
         GREATEST_DEPTH

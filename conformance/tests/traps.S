@@ -2,62 +2,62 @@
 #include "ctr.h"
 
 // From mode X into M by ECALL, where MRET enters X from M.
-#define INTO_M(name, ENTER, controls, first, second) \
-CASE(name); START(controls, 0, 8f); ENTER(1f); \
+#define INTO_M(ENTER, controls, first, second) \
+        START(controls, 0, 8f); ENTER(1f); \
 1:      ecall; \
 8:      LIST; first; second; END_LIST; ENDCASE
 // From U into S by a delegated ECALL, M not enabled. s8 shows that the trap went there.
-#define INTO_S(name, controls, second) \
-CASE(name); DELEGATE(1 << 8, 0); li s8, -1; START(controls, 0, 8f); ENTER_U(1f); \
+#define INTO_S(controls, second) \
+        DELEGATE(1 << 8, 0); li s8, -1; START(controls, 0, 8f); ENTER_U(1f); \
 1:      ecall; \
 8:      LIST; second; END_LIST; CHECK_CSR(mcause, 9); ENDCASE
 // From S to U or S by SRET, M not enabled; an ECALL ends it.
-#define FROM_S(name, SRET_TO, controls, second) \
-CASE(name); START(controls, 0, 8f); ENTER_S(1f); \
+#define FROM_S(SRET_TO, controls, second) \
+        START(controls, 0, 8f); ENTER_S(1f); \
 1:      SRET_TO(2f); \
 2:      ecall; \
 8:      LIST; second; END_LIST; ENDCASE
 
 TESTS(25000)
 // covers: trap-whole return-whole trap-source type-exception type-return
-INTO_M("U to M, both enabled", ENTER_U, CTL_U | CTL_M, ROW(90b, 1b, TRAPRET), ROW(1b, ctr_mtrap, EXCEPTION))
+CASE_OR("U to M, both enabled", "U to S, both enabled"); INTO_M(ENTER_U, CTL_U | CTL_M, ROW(90b, 1b, TRAPRET), ROW(1b, ctr_mtrap, EXCEPTION))
 // covers: trap-into return-out
-INTO_M("U to M, M enabled: the trap without source, the return without target", ENTER_U, CTL_M, ROW(90b, 0, TRAPRET), ROW(0, ctr_mtrap, EXCEPTION))
+CASE_OR("U to M, M enabled: the trap without source, the return without target", "U to S, S enabled: the trap without source, the return without target"); INTO_M(ENTER_U, CTL_M, ROW(90b, 0, TRAPRET), ROW(0, ctr_mtrap, EXCEPTION))
 // covers: trap-out return-into
-INTO_M("U to M, U enabled: nothing", ENTER_U, CTL_U, NONE, NONE)
+CASE_OR("U to M, U enabled: nothing", "U to S, U enabled: nothing"); INTO_M(ENTER_U, CTL_U, NONE, NONE)
 // covers: trap-neither
-INTO_M("U to M, neither enabled: nothing", ENTER_U, CTL_S, NONE, NONE)
+CASE_OR("U to M, neither enabled: nothing", "U to S, neither enabled: nothing"); INTO_M(ENTER_U, CTL_BETWEEN, NONE, NONE)
 // covers: trap-whole return-whole
-INTO_M("S to M, both enabled", ENTER_S, CTL_S | CTL_M, ROW(90b, 1b, TRAPRET), ROW(1b, ctr_mtrap, EXCEPTION))
+CASE("S to M, both enabled"); INTO_M(ENTER_S, CTL_S | CTL_M, ROW(90b, 1b, TRAPRET), ROW(1b, ctr_mtrap, EXCEPTION))
 // covers: trap-into return-out
-INTO_M("S to M, M enabled: the trap without source, the return without target", ENTER_S, CTL_M, ROW(90b, 0, TRAPRET), ROW(0, ctr_mtrap, EXCEPTION))
+CASE("S to M, M enabled: the trap without source, the return without target"); INTO_M(ENTER_S, CTL_M, ROW(90b, 0, TRAPRET), ROW(0, ctr_mtrap, EXCEPTION))
 // covers: trap-out return-into
-INTO_M("S to M, S enabled: nothing", ENTER_S, CTL_S, NONE, NONE)
+CASE("S to M, S enabled: nothing"); INTO_M(ENTER_S, CTL_S, NONE, NONE)
 // covers: trap-neither
-INTO_M("S to M, neither enabled: nothing", ENTER_S, CTL_U, NONE, NONE)
+CASE("S to M, neither enabled: nothing"); INTO_M(ENTER_S, CTL_U, NONE, NONE)
 // covers: trap-whole return-whole
-INTO_M("M to M, enabled", ENTER_M, CTL_M, ROW(90b, 1b, TRAPRET), ROW(1b, ctr_mtrap, EXCEPTION))
+CASE("M to M, enabled"); INTO_M(ENTER_M, CTL_M, ROW(90b, 1b, TRAPRET), ROW(1b, ctr_mtrap, EXCEPTION))
 // covers: trap-neither
-INTO_M("M to M, not enabled: nothing", ENTER_M, CTL_S | CTL_U, NONE, NONE)
+CASE("M to M, not enabled: nothing"); INTO_M(ENTER_M, CTL_S | CTL_U, NONE, NONE)
 // covers: trap-whole
-INTO_S("U to S, both enabled", CTL_U | CTL_S, ROW(1b, ctr_strap, EXCEPTION))
+CASE("U to S, both enabled"); INTO_S(CTL_U | CTL_S, ROW(1b, ctr_strap, EXCEPTION))
 // covers: trap-into
-INTO_S("U to S, S enabled: without source", CTL_S, ROW(0, ctr_strap, EXCEPTION))
+CASE("U to S, S enabled: without source"); INTO_S(CTL_S, ROW(0, ctr_strap, EXCEPTION))
 // covers: trap-out
-INTO_S("U to S, U enabled: nothing", CTL_U, NONE)
+CASE("U to S, U enabled: nothing"); INTO_S(CTL_U, NONE)
 // covers: trap-neither
-INTO_S("U to S, neither enabled: nothing", 0, NONE)
+CASE("U to S, neither enabled: nothing"); INTO_S(0, NONE)
 // covers: return-whole type-return
-FROM_S("SRET from S to U, both enabled", SRET_TO_U, CTL_S | CTL_U, ROW(92b, 2b, TRAPRET))
+CASE("SRET from S to U, both enabled"); FROM_S(SRET_TO_U, CTL_S | CTL_U, ROW(92b, 2b, TRAPRET))
 // covers: return-out
-FROM_S("SRET from S to U, S enabled: without target", SRET_TO_U, CTL_S, ROW(92b, 0, TRAPRET))
+CASE("SRET from S to U, S enabled: without target"); FROM_S(SRET_TO_U, CTL_S, ROW(92b, 0, TRAPRET))
 // covers: return-into
-FROM_S("SRET from S to U, U enabled: nothing", SRET_TO_U, CTL_U, NONE)
-FROM_S("SRET from S to U, neither enabled: nothing", SRET_TO_U, 0, NONE)
+CASE("SRET from S to U, U enabled: nothing"); FROM_S(SRET_TO_U, CTL_U, NONE)
+CASE("SRET from S to U, neither enabled: nothing"); FROM_S(SRET_TO_U, 0, NONE)
 // covers: return-whole
-FROM_S("SRET from S to S, enabled", SRET_TO_S, CTL_S, ROW(92b, 2b, TRAPRET))
+CASE("SRET from S to S, enabled"); FROM_S(SRET_TO_S, CTL_S, ROW(92b, 2b, TRAPRET))
 // covers: return-into
-FROM_S("SRET from S to S, not enabled: nothing", SRET_TO_S, CTL_U, NONE)
+CASE("SRET from S to S, not enabled: nothing"); FROM_S(SRET_TO_S, CTL_U, NONE)
 // covers: trap-whole
 CASE("an exception within S")
         DELEGATE(1 << 3, 0)
@@ -83,7 +83,7 @@ CASE("SRET in M")
         END_LIST
 ENDCASE
 // covers: type-exception trap-source
-CASE("exceptions of other causes: EBREAK, an illegal instruction, an access that isn't allowed")
+CASE_ALL("exceptions of other causes: EBREAK, an illegal instruction, an access that isn't allowed")
         START(CTL_M | CTL_U, 0, 8f)
         ENTER_U(1f)
 1:      ebreak
@@ -107,7 +107,7 @@ CASE("exceptions of other causes: EBREAK, an illegal instruction, an access that
         END_LIST
 ENDCASE
 // covers: filter-traps
-CASE("EXCINH leaves exceptions out")
+CASE_ALL("EXCINH leaves exceptions out")
         START(CTL_M | CTL_U | CTL_EXCINH, 0, 8f)
         ENTER_U(1f)
 1:      ecall
@@ -115,7 +115,7 @@ CASE("EXCINH leaves exceptions out")
         ROW(90b, 1b, TRAPRET)
         END_LIST
 ENDCASE
-CASE("EXCINH leaves exceptions out of a mode that isn't enabled too")
+CASE_ALL("EXCINH leaves exceptions out of a mode that isn't enabled too")
         START(CTL_M | CTL_EXCINH, 0, 8f)
         ENTER_U(1f)
 1:      ecall
@@ -123,7 +123,7 @@ CASE("EXCINH leaves exceptions out of a mode that isn't enabled too")
         ROW(90b, 0, TRAPRET)
         END_LIST
 ENDCASE
-CASE("TRETINH leaves trap returns out")
+CASE_ALL("TRETINH leaves trap returns out")
         START(CTL_M | CTL_U | CTL_TRETINH, 0, 8f)
         ENTER_U(1f)
 1:      ecall
@@ -131,7 +131,7 @@ CASE("TRETINH leaves trap returns out")
         ROW(1b, ctr_mtrap, EXCEPTION)
         END_LIST
 ENDCASE
-CASE("TRETINH leaves trap returns into a mode that isn't enabled out too")
+CASE_ALL("TRETINH leaves trap returns into a mode that isn't enabled out too")
         START(CTL_M | CTL_TRETINH, 0, 8f)
         ENTER_U(1f)
 1:      ecall
@@ -139,7 +139,7 @@ CASE("TRETINH leaves trap returns into a mode that isn't enabled out too")
         ROW(0, ctr_mtrap, EXCEPTION)
         END_LIST
 ENDCASE
-CASE("INTRINH and the filter bits of jumps leave exceptions and returns in")
+CASE_ALL("INTRINH and the filter bits of jumps leave exceptions and returns in")
         la      t0, begin_signature
         ld      a0, R_MCTRCTL(t0)
         li      t0, CTL_JUMPS | CTL_INTRINH
@@ -155,7 +155,7 @@ CASE("INTRINH and the filter bits of jumps leave exceptions and returns in")
         END_LIST
 ENDCASE
 // covers: trap-source
-CASE("a load that faults is recorded as an exception, at its own address")
+CASE_ALL("a load that faults is recorded as an exception, at its own address")
         START(CTL_M | CTL_U, 0, 8f)
         li      x6, -4096
         ENTER_U(1f)
@@ -166,7 +166,7 @@ CASE("a load that faults is recorded as an exception, at its own address")
         END_LIST
 ENDCASE
 // covers: recorded-retired
-CASE("a jump that itself raises an exception is no jump: the exception alone is recorded")
+CASE_ALL("a jump that itself raises an exception is no jump: the exception alone is recorded")
         NEED(HAS_GRAIN)
         START(CTL_M | CTL_U, 0, 8f)
         la      x6, 1f + 2
@@ -178,7 +178,7 @@ CASE("a jump that itself raises an exception is no jump: the exception alone is 
         END_LIST
 ENDCASE
 // covers: type-exception trap-source trap-target
-CASE("a store that faults, and a load and a store that aren't aligned")
+CASE_ALL("a store that faults, and a load and a store that aren't aligned")
         START(CTL_M | CTL_U, 0, 8f)
         li      x6, -4096
         ENTER_U(1f)
@@ -211,7 +211,7 @@ CASE("a store that faults, and a load and a store that aren't aligned")
 7:
 ENDCASE
 // covers: recorded-retired trap-source
-CASE("a branch that itself raises an exception is no branch")
+CASE_ALL("a branch that itself raises an exception is no branch")
         NEED(HAS_GRAIN)
         START(CTL_M | CTL_U, 0, 8f)
         ENTER_U(1f)
@@ -221,7 +221,7 @@ CASE("a branch that itself raises an exception is no branch")
         ROW(1b, ctr_mtrap, EXCEPTION)
         END_LIST
 ENDCASE
-CASE("a jump with linkage that itself raises an exception is no jump, also under return-stack emulation")
+CASE_ALL("a jump with linkage that itself raises an exception is no jump, also under return-stack emulation")
         NEED(HAS_GRAIN)
         START(CTL_M | CTL_U, 0, 8f)
         ENTER_U(1f)

@@ -1,12 +1,17 @@
 # A kernel in M with two threads in U, a and b, which share one hart. A thread gives way by ECALL; the kernel then saves its
 # registers and the records of its calls, and brings those of the other one, through siselect, sireg, sireg2, sireg3 and
-# sctrstatus. Built as it is, it is right. Each of the four words below makes one mistake of it:
+# sctrstatus. Built as it is, it is right. Each of the words below makes one mistake of it:
 #
 #     NO_RECORDS      the records aren't saved and brought back
 #     VALID_ONLY      entries that hold no transfer are left out when records are brought back
 #     POINTER_LAST    sctrstatus is written behind the entries
 #     NO_POINTER      sctrstatus isn't written
+#     NO_TYPES        sireg3, the data word, isn't saved and brought back
+#     FROZEN_STAYS    the kernel stops recording by FROZEN while it saves, and brings the saved word back as it is; thread a
+#                     makes a fourth call after it came back
+#     DEPTH_LAST      thread b has the depth 32, and sctrdepth is written behind the entries
 
+#define sctrdepth  0x15f
 #define sctrstatus 0x14f
 #define siselect   0x150
 #define sireg      0x151
@@ -55,6 +60,10 @@ switch:
         csrr    t0, mscratch
         sd      t0, 248(s0)
 #ifndef NO_RECORDS
+#ifdef FROZEN_STAYS
+        li      t0, 0x80000000          # FROZEN
+        csrs    sctrstatus, t0
+#endif
         csrr    t0, sctrstatus
         sd      t0, STATUS(s0)
         addi    a0, s0, RECORDS
@@ -66,8 +75,10 @@ save:
         sd      t0, 0(a0)
         csrr    t0, sireg2
         sd      t0, 8(a0)
+#ifndef NO_TYPES
         csrr    t0, sireg3
         sd      t0, 16(a0)
+#endif
         addi    a0, a0, 24
         addi    s1, s1, 1
         bne     s1, t2, save
@@ -98,8 +109,10 @@ write:
         csrw    sireg, t0
         ld      t0, 8(a0)
         csrw    sireg2, t0
+#ifndef NO_TYPES
         ld      t0, 16(a0)
         csrw    sireg3, t0
+#endif
 next:
         addi    a0, a0, 24
         addi    s1, s1, 1
@@ -107,6 +120,12 @@ next:
 #ifdef POINTER_LAST
         ld      t0, STATUS(s0)
         csrw    sctrstatus, t0
+#endif
+#ifdef DEPTH_LAST
+        la      t0, context_b
+        xor     t0, t0, s0
+        seqz    t0, t0                  # 32 entries for b, 16 for a
+        csrw    sctrdepth, t0
 #endif
 #endif
         li      t0, 0x1800
@@ -126,15 +145,19 @@ next:
         ld      x31, 248(x31)
         mret
 
-# Thread a makes three calls, gives way, and stays where it comes back to.
+# Thread a makes three calls, the third by a register, gives way, and stays where it comes back to.
 a_main:
         jal     a_one
 a_one:
         jal     a_two
 a_two:
-        jal     a_three
+        call    a_three                 # AUIPC and JALR, since nothing is relaxed: an indirect call
 a_three:
         ecall
+#ifdef FROZEN_STAYS
+        jal     a_four
+a_four:
+#endif
         j       .
 
 # Thread b makes five calls and gives way.

@@ -16,6 +16,9 @@ import contextlib
 import os
 import signal
 import sys
+import time
+
+SECONDS_UNTOLD, SECONDS_BETWEEN = 2, 0.5
 
 NO, USAGE, READ, WRITE, ELF, SAMPLE, PROGRAM, LAYOUT, JUDGEMENT = range(1, 10)
 
@@ -37,6 +40,15 @@ class Arguments(argparse.ArgumentParser):
         super().__init__(description=doc, formatter_class=argparse.RawDescriptionHelpFormatter, allow_abbrev=False,
                          **words)
 
+    def parse_args(self, args=None, namespace=None):
+        """The arguments; one that is given and empty names nothing."""
+        given = super().parse_args(args, namespace)
+        for action in self._actions:
+            value = getattr(given, action.dest, None)
+            if value == "" or isinstance(value, list) and "" in value:
+                self.error("%s is empty" % (action.option_strings[0] if action.option_strings else action.metavar or action.dest))
+        return given
+
     def error(self, message):
         raise End(USAGE, "%s; --help tells more" % message)
 
@@ -48,6 +60,33 @@ def note(text):
             print("%s: %s" % (os.path.basename(sys.argv[0]), text), file=sys.stderr)
     except OSError:
         pass
+
+
+class Progress:
+    """How far a tool is, as a line on standard error that is written over, where that is a terminal and it takes longer than
+    two seconds."""
+
+    def __init__(self, what):
+        self.what, self.shown = what, False
+        self.next = time.monotonic() + SECONDS_UNTOLD if sys.stderr is not None and sys.stderr.isatty() else None
+
+    def at(self, count):
+        if self.next is not None and time.monotonic() >= self.next:
+            self.write("\r%s: %s %s" % (os.path.basename(sys.argv[0]), "{:,}".format(count), self.what))
+            self.shown, self.next = True, time.monotonic() + SECONDS_BETWEEN
+
+    def end(self):
+        if self.shown:
+            self.write("\r\x1b[K")
+            self.shown = False
+
+    @staticmethod
+    def write(text):
+        try:
+            sys.stderr.write(text)
+            sys.stderr.flush()
+        except OSError:
+            pass
 
 
 def opened(path):
@@ -88,20 +127,6 @@ def content(path):
             return file.read()
     except OSError as error:
         raise End(READ, "cannot read %s: %s" % (path or "standard input", error.strerror)) from error
-
-
-def binary():
-    """The path of the program: CTRSIM of the environment, else the one that was built, else the one that was installed,
-    where this module is in PREFIX/libexec/ctrsim/ctrtools."""
-    named = os.environ.get("CTRSIM")
-    if named and not os.path.isfile(named):
-        raise End(PROGRAM, "CTRSIM names no file: %s" % named)
-    places = [named, os.path.join(TOP, "crates", "ctrsim", "out", "ctrsim"),
-              os.path.join(os.path.dirname(TOP), "bin", "ctrsim")]
-    for place in places:
-        if place and os.path.isfile(place):
-            return os.path.abspath(place)
-    raise End(PROGRAM, "no program: `rt ci` builds crates/ctrsim/out/ctrsim, or CTRSIM names one")
 
 
 def flush():

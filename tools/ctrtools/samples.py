@@ -8,12 +8,15 @@ from . import ends
 SAMPLE_RECORD = 9
 BRANCH_STACK, HW_INDEX = 0x800, 0x20000
 MOST_BRANCHES = 256
+BRANCH_SIZE = 24
+BYTES_BETWEEN = 1 << 18
 
 # The fields between header and branches, in their order: the bit of the layout, the name of its first word, of its second
 # one where it is two of four bytes, and the form.
 FIELDS = [(0x10000, "identifier", None), (0x1, "ip", None), (0x2, "pid", "tid"), (0x4, "time", None),
           (0x8, "addr", None), (0x40, "id", None), (0x200, "stream_id", None), (0x80, "cpu", None),
           (0x100, "period", None)]
+FIELD_NAMES = {name for _, first, second in FIELDS for name in (first, second) if name}
 KNOWN = BRANCH_STACK | sum(bit for bit, _, _ in FIELDS)
 
 MODES = {1: "S", 2: "U", 3: "M", 4: "VS", 5: "VU"}
@@ -27,18 +30,28 @@ LAYOUT_FORM = ("the word sample_type in hexadecimal, and behind a colon the bran
 LAYOUT_HELP = "%s; %s where none is given" % (LAYOUT_FORM, USUAL)
 
 MISPREDICTED, PREDICTED = 1, 2
+HEADER, NUMBER = struct.Struct("<IHH"), struct.Struct("<Q")
 
 Branch = collections.namedtuple("Branch", "source target flags")
+
+
+def two_words(text):
+    """Two words of 64 bits in hexadecimal, with a colon between them and 0x ahead of each or not; the second is 0 where it isn't
+    there. None where the text is something else."""
+    if not re.fullmatch(r"(0[xX])?[0-9a-fA-F]{1,16}(:(0[xX])?[0-9a-fA-F]{1,16})?", text):
+        return None
+    first, _, second = text.partition(":")
+    return int(first, 16), int(second or "0", 16)
 
 
 class Layout:
     """Which fields a sample has."""
 
     def __init__(self, word=USUAL):
-        if not re.fullmatch(r"[0-9a-fA-F]{1,16}(:[0-9a-fA-F]{1,16})?", word):
+        both = two_words(word)
+        if both is None:
             raise ends.End(ends.USAGE, "%s is no layout; one is %s" % (word, LAYOUT_FORM))
-        bits, _, branch = word.partition(":")
-        self.bits, self.branch = int(bits, 16), int(branch or "0", 16)
+        self.bits, self.branch = both
         if self.bits & ~KNOWN or not self.bits & BRANCH_STACK or self.branch not in (0, HW_INDEX):
             raise ends.End(ends.USAGE, "%s is no layout of ctrsim (docs/samples.md)" % word)
         self.names, form = [], "<"
@@ -66,13 +79,29 @@ class Layout:
 
 class Sample:
     """A sample: where it stands, its mode, its fields by name (0 where the layout lacks one), and its branches, the
-    youngest first."""
-    __slots__ = ("offset", "size", "misc", "values", "hw_index", "branches")
+    youngest first. A field is an attribute too, as `sample.ip`. `raw` are the branches as bytes, 24 of each."""
+    __slots__ = ("offset", "size", "misc", "values", "hw_index", "raw", "kept")
+
+    def __init__(self, values=None, branches=(), misc=3, hw_index=0):
+        self.offset = self.size = 0
+        self.misc, self.hw_index, self.values = misc, hw_index, {} if values is None else values
+        self.branches = branches
 
     def __getattr__(self, name):
-        if any(name in field for field in FIELDS):
+        if name in FIELD_NAMES:
             return self.values.get(name, 0)
         raise AttributeError(name)
+
+    @property
+    def branches(self):
+        if self.kept is None:
+            self.kept = [Branch(*words) for words in struct.iter_unpack("<QQQ", self.raw)]
+        return self.kept
+
+    @branches.setter
+    def branches(self, branches):
+        self.kept = None
+        self.raw = b"".join(struct.pack("<QQQ", *branch) for branch in branches)
 
     def mode(self):
         return MODES.get(self.misc & 7, "?")
@@ -81,10 +110,10 @@ class Sample:
 def spelled(sample, layout):
     """The bytes of a sample."""
     values = [sample.values.get(name, 0) if name else 0 for name in layout.names]
-    body = layout.fields.pack(*values) + struct.pack("<Q", len(sample.branches))
+    body = layout.fields.pack(*values) + struct.pack("<Q", len(sample.raw) // BRANCH_SIZE)
     if layout.branch:
         body += struct.pack("<Q", sample.hw_index)
-    body += b"".join(struct.pack("<QQQ", *branch) for branch in sample.branches)
+    body += sample.raw
     return struct.pack("<IHH", SAMPLE_RECORD, sample.misc, 8 + len(body)) + body
 
 
@@ -104,13 +133,19 @@ def exactly(stream, count):
 
 def read(stream, layout):
     """The samples of a stream, one after another; the end of the tool at the first bytes that are none."""
-    offset = 0
-    while True:
-        head = exactly(stream, 8)
-        if not head:
-            return
-        yield sample_of(head, stream, layout, offset)
-        offset += struct.unpack_from("<H", head, 6)[0]
+    offset, told, progress = 0, 0, ends.Progress("bytes read")
+    try:
+        while True:
+            head = exactly(stream, 8)
+            if not head:
+                return
+            yield sample_of(head, stream, layout, offset)
+            offset += head[6] | head[7] << 8
+            if offset >= told:
+                progress.at(offset)
+                told = offset + BYTES_BETWEEN
+    finally:
+        progress.end()
 
 
 def sample_of(head, stream, layout, offset):
@@ -119,7 +154,7 @@ def sample_of(head, stream, layout, offset):
 
     if len(head) < 8:
         raise broken("header cut")
-    kind, misc, size = struct.unpack("<IHH", head)
+    kind, misc, size = HEADER.unpack(head)
     if kind != SAMPLE_RECORD:
         raise broken("not a sample")
     if size < layout.least or (size - layout.least) % 24 or size > layout.least + 24 * MOST_BRANCHES:
@@ -127,18 +162,18 @@ def sample_of(head, stream, layout, offset):
     body = exactly(stream, size - 8)
     if len(body) < size - 8:
         raise broken("cut")
-    sample = Sample()
-    sample.offset, sample.size, sample.misc = offset, size, misc
+    sample = Sample.__new__(Sample)
+    sample.offset, sample.size, sample.misc, sample.kept = offset, size, misc, None
     sample.values = dict(zip(layout.names, layout.fields.unpack_from(body)))
     if sample.values.pop("", 0):
         raise broken("reserved cpu bytes")
     at = layout.fields.size
-    count, = struct.unpack_from("<Q", body, at)
+    count, = NUMBER.unpack_from(body, at)
     if layout.least + 24 * count != size:
         raise broken("wrong number of branches")
-    sample.hw_index = struct.unpack_from("<Q", body, at + 8)[0] if layout.branch else 0
-    sample.branches = [Branch(*words) for words in struct.iter_unpack("<QQQ", body[len(body) - 24 * count:])]
-    for i, branch in enumerate(sample.branches):
-        if branch.flags >> 33:
-            raise broken("reserved flags in branch %d" % i)
+    sample.hw_index = NUMBER.unpack_from(body, at + 8)[0] if layout.branch else 0
+    sample.raw = raw = body[len(body) - 24 * count:]
+    # Bits 33 to 63 of the flags, over all branches at once.
+    if any(raw[21::24]) or any(raw[22::24]) or any(raw[23::24]) or max(raw[20::24], default=0) > 1:
+        raise broken("reserved flags in branch %d" % next(i for i, branch in enumerate(sample.branches) if branch.flags >> 33))
     return sample

@@ -11,7 +11,12 @@ SECTIONS
     .text : { *(.text.start) *(.text .text.*) } > ram
     .rodata : { *(.rodata .rodata.*) *(.srodata .srodata.*) } > ram
     .data : { *(.data .data.*) __global_pointer$ = . + 0x800; *(.sdata .sdata.*) } > ram
-    .bss (NOLOAD) : { *(.sbss .sbss.*) *(.bss .bss.*) *(COMMON) } > ram
+    .tdata : { *(.tdata .tdata.*) } > ram               /* the block of the one thread, in which a C library has errno */
+    .tbss (NOLOAD) : { *(.tbss .tbss.*) } > ram
+    .bss (NOLOAD) : { . = . + SIZEOF(.tbss); *(.sbss .sbss.*) *(.bss .bss.*) *(COMMON) } > ram
+    PROVIDE(__tls_start = ADDR(.tdata));
+    PROVIDE(__heap_start = ALIGN(16));                  /* what malloc of a C library has: all but 64 KiB for the stack */
+    PROVIDE(__heap_end = ORIGIN(ram) + LENGTH(ram) - (DEFINED(stack) ? stack : 64K));
     __stack_top = ORIGIN(ram) + LENGTH(ram);
     ASSERT(. + 1024 <= __stack_top, "no room for the stack")
     .riscv.attributes 0 : { *(.riscv.attributes) }   /* tells disassemblers that there is the extension M */

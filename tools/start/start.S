@@ -11,7 +11,11 @@ _start:
         la      gp, __global_pointer$   # where small data is found; without it loads from there fault
         .option pop
         la      sp, __stack_top         # the end of memory, from where the stack grows down
+#ifdef LIBC
+        la      tp, __tls_start         # the block of thread-local variables, as errno of a C library
+#else
         li      tp, 0                   # no thread
+#endif
         la      t0, trap
         csrw    mtvec, t0               # a fault is then seen: the program counter of the sample is trap
 #ifdef USER

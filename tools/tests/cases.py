@@ -30,16 +30,16 @@ def data(name):
 
 def run(command, given=b"", **more):
     """The status of a command, its output and what it said, both in bytes."""
-    ended = subprocess.run(command, input=given, stdout=subprocess.PIPE, stderr=subprocess.PIPE, timeout=60, **more)
+    ended = subprocess.run(command, input=given, stdout=subprocess.PIPE, stderr=subprocess.PIPE, timeout=120, **more)
     return ended.returncode, ended.stdout, ended.stderr
 
 
 def program():
     """The program that tests run; a test that needs it is skipped where there is none."""
-    for place in (os.environ.get("CTRSIM"), os.path.join(TOP, "crates", "ctrsim", "out", "ctrsim")):
+    for place in (os.environ.get("CTRSIM"), os.path.join(TOP, "crates", "ctrsim", "out", "ctrsim"), os.path.join(TOP, "out", "ctrsim")):
         if place and os.path.isfile(place):
             return os.path.abspath(place)
-    raise unittest.SkipTest("no program: CTRSIM names none, and crates/ctrsim/out/ctrsim isn't there")
+    raise unittest.SkipTest("no program: CTRSIM names none, and neither crates/ctrsim/out/ctrsim nor out/ctrsim is there")
 
 
 @contextlib.contextmanager

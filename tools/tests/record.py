@@ -11,6 +11,9 @@ sys.path.insert(0, os.path.dirname(os.path.abspath(__file__)))
 
 import cases
 
+sys.path.insert(0, cases.TOOLS)
+from ctrtools import samples
+
 ELF = os.path.join(cases.DATA, "stacks.elf")
 OBJCOPIES = ("riscv64-unknown-elf-objcopy", "llvm-objcopy", "llvm-objcopy-14")
 OBJCOPY = next((name for name in OBJCOPIES if shutil.which(name)), None)
@@ -49,7 +52,12 @@ class Record(cases.Case):
         for words, said in (([], "ELF"), ([ELF, "--steps", "0"], "--steps"), ([ELF, "--every", "x"], "--every"),
                             ([ELF, "--depth", "4"], "the entries of the record buffer"), ([ELF, "--mode", "X"], "not X"),
                             ([ELF, "--branches", "lbr"], "call_stack"), ([ELF, "--controls", "xyz"], "hexadecimal"),
-                            ([ELF, "--layout", "3"], "3 is no layout"), ([ELF, "--step", "3"], "unrecognized")):
+                            ([ELF, "--layout", "3"], "3 is no layout"), ([ELF, "--step", "3"], "unrecognized"),
+                            ([ELF, "--controls", "8_4"], "not 8_4"), ([ELF, "--layout", "+987"], "+987 is no layout"),
+                            ([ELF, "--controls", "1" + "0" * 16], "64 bits"), ([ELF, "--controls", ""], "--controls is empty"),
+                            ([""], "ELF is empty"), ([ELF, "--layout", ""], "--layout is empty"),
+                            ([ELF, "-o", ""], "-o is empty"), ([ELF, "--until", ""], "--until is empty"),
+                            ([ELF, "--until", "leaf", "--until-still"], "two ends of one run")):
             self.ends(cases.tool("record", *words), 2, said)
         self.ends(cases.tool("record", "/nowhere"), 3, "cannot read /nowhere")
         with cases.environment(CTRSIM="/bin/false"):
@@ -74,9 +82,11 @@ class Record(cases.Case):
                                       (["--branches", "call"], 4 | out & ~(1 << 41), 0),
                                       (["--branches", "any_ret"], 4 | out & ~(1 << 45) & ~(1 << 44), 0),
                                       (["--branches", "cond"], 4 | out & ~(1 << 37) | 1 << 36, 0),
-                                      (["--controls", "1084:82"], 0x1084, 0x82)):
+                                      (["--controls", "1084:82"], 0x1084, 0x82),
+                                      (["--controls", "0x84:0X82", "--layout", "0x803:0x20000"], 0x84, 0x82)):
             head, _, _ = self.schedule(*words)
-            self.assertEqual(head.split("\n")[3].split()[4:6], ["%x" % machine, "%x" % guest], words)
+            task = next(line for line in head.split("\n") if line.startswith("task "))
+            self.assertEqual(task.split()[4:6], ["%x" % machine, "%x" % guest], words)
 
     def test_schedule(self):
         head, image, tail = self.schedule("--depth", "64", "--every", "7", "--steps", "2000000001", "--timer", "900000000",
@@ -106,6 +116,36 @@ class Record(cases.Case):
         self.assertEqual((status, output), (0, wanted))
         self.assertIn("5 samples of layout 805, one after each 1 steps\n", said.decode())
         self.assertIn("after 5 steps it stood in mode M at leaf\n", said.decode())
+
+    def recorded(self, *words):
+        """The status of a run to some place, how many samples it wrote, and what it said last."""
+        path = os.path.join(self.folder, "samples")
+        with cases.environment(CTRSIM=cases.program()):
+            status, _, said = cases.tool("record", ELF, "--every", "1", "-o", path, *words)
+        with open(path, "rb") as file:
+            return status, len(list(samples.read(file, samples.Layout()))), said.splitlines()[-1]
+
+    def test_until_a_place(self):
+        # By data/stacks.S the fifth step calls leaf. _start is never come to again: the program ends in a jump to itself.
+        self.assertEqual(self.recorded("--until", "leaf"), (0, 5, "record: it came to leaf after 5 steps"))
+        self.assertEqual(self.recorded("--until", "main"), (0, 1, "record: it came to main after 1 steps"))
+        self.assertEqual(self.recorded("--until", "leaf", "--steps", "4"), (1, 4, "record: in 4 steps it didn't come to leaf"))
+        self.assertEqual(self.recorded("--until", "_start", "--steps", "900"),
+                         (1, 900, "record: in 900 steps it didn't come to _start"))
+        self.ends(cases.tool("record", ELF, "--until", "nothing"), 5, "no symbol nothing")
+
+    def test_until_it_stays(self):
+        # queens.c ends in a loop of one instruction, solved. The places after each step, by samples of all of them.
+        queens, path = os.path.join(cases.DATA, "queens.elf"), os.path.join(self.folder, "all")
+        with cases.environment(CTRSIM=cases.program()):
+            self.assertEqual(cases.tool("record", queens, "--steps", "60000", "--every", "1", "--controls", "0", "-o", path)[0], 0)
+            with open(path, "rb") as file:
+                places = [sample.ip for sample in samples.read(file, samples.Layout())]
+            last = next(i for i in range(len(places), 0, -1) if places[i - 1] != places[-1])
+            for words in (["--until-still"], ["--until", "solved"]):
+                status, _, said = cases.tool("record", queens, *words, "-o", path)
+                self.assertEqual((status, said.splitlines()[-1].split(" after ")[1]), (0, "%d steps" % (last + 1)))
+            self.assertEqual(cases.tool("record", queens, "--until-still", "--steps", str(last + 1), "-o", path)[0], 1)
 
     def test_what_is_said(self):
         with cases.environment(CTRSIM=cases.program()):

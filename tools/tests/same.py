@@ -88,7 +88,7 @@ class Same(cases.Case):
         self.ends(cases.tool("same", LAYOUT, good, self.folder), 3, "directory")
         self.ends(cases.tool("same", LAYOUT, "-", "-"), 2, "standard input")
         self.ends(cases.tool("same", LAYOUT, good), 2, "--help")
-        self.ends(cases.tool("same", "0x986", good, good), 2, "no layout")
+        self.ends(cases.tool("same", "+986", good, good), 2, "no layout")
         self.ends(cases.tool("same", "3", good, good), 2, "no layout")
 
     def test_standard_input_and_pipes(self):
