@@ -12,3 +12,6 @@ mod rows;
 pub use laws::report_laws;
 pub use report::{MAX_PAIRS, Report, ReportFault};
 pub use rows::{Row, Rows};
+
+#[cfg(test)]
+mod tests;
