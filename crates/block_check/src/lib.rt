@@ -16,3 +16,6 @@ pub use checking::check_sample;
 pub use image::IMAGE_BASE;
 pub use laws::check_laws;
 pub use rules::{Broken, Why};
+
+#[cfg(test)]
+mod tests;
