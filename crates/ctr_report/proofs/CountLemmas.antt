@@ -27,9 +27,9 @@ tie b from to =
     ∙ ap (λ (x : Bool). x && is_eq (nat_cmp b.to to)) (unsigned_tied b.from from)
     ∙ ap (λ (x : Bool). (b.from == from) && x) (unsigned_tied b.to to)
 
--- a branch that has_pair from one address to another has these
-pub goes_is : (from to : ℕ) (b : Branch) → has_pair from to b ≡ true → (b.from ≡ from) × (b.to ≡ to)
-goes_is from to b e =
+-- the pair of a branch that has one is this one
+pub pair_is : (from to : ℕ) (b : Branch) → has_pair from to b ≡ true → (b.from ≡ from) × (b.to ≡ to)
+pair_is from to b e =
     elim (eqb_tells b.from from) [
       | inl p ↦ elim (eqb_tells b.to to) [
         | inl q ↦ (p.1, q.1)
@@ -55,7 +55,7 @@ count_cons from to b rest =
 not_back : (b x : Branch) → has_pair b.from b.to x ≡ false → (test : Bool) → has_pair x.from x.to b ≡ test → has_pair x.from x.to b ≡ false
 not_back b x e false back = back
 not_back b x e true back =
-    let pair = goes_is x.from x.to b back in
+    let pair = pair_is x.from x.to b back in
     let there : has_pair b.from b.to x ≡ true = rw (eq-eqb x.from b.from (sym pair.0), eq-eqb x.to b.to (sym pair.1)) refl in
     absurd (both_ways (has_pair b.from b.to x) e there)
 
@@ -66,7 +66,7 @@ each_more : (branches : List Branch) (b : Branch) (old new : List ((ℕ × ℕ) 
     → Counts branches old → (test : Bool) → has_pair from to b ≡ test
     → count_in from to new ≡ count_of from to (branches ++ b ∷ [])
 each_more branches b old new n from to was set so true e =
-    let pair = goes_is from to b e in
+    let pair = pair_is from to b e in
     let same : count_of from to branches ≡ n = rw (← pair.0, ← pair.1) (sym (so.each b.from b.to) ∙ was) in
     let more : count_of from to branches + cond (has_pair from to b) 1 0 ≡ n + 1 = rw (e, same) refl in
     let now : cond (is_at (pair_cmp (b.from, b.to)) (from, to)) (Some (n + 1)) (lookup (is_at (pair_cmp (from, to))) old) ≡ Some (n + 1) = rw (tie b from to, e) refl in
@@ -95,7 +95,7 @@ pair_step : (b x : Branch) (rest : List Branch) (test : Bool) → has_pair b.fro
     → new_if (count_of b.from b.to (rest ++ x ∷ [])) + new_if (count_of x.from x.to rest)
     ≡ new_if (count_of b.from b.to rest) + new_if (count_of x.from x.to (b ∷ rest))
 pair_step b x rest true e =
-    let pair = goes_is b.from b.to x e in
+    let pair = pair_is b.from b.to x e in
     let first : count_of b.from b.to (rest ++ x ∷ []) ≡ count_of b.from b.to rest + 1 = count_more b.from b.to rest x ∙ one_more (has_pair b.from b.to x) (count_of b.from b.to rest) e in
     let back : has_pair x.from x.to b ≡ true = rw (eq-eqb b.from x.from (sym pair.0), eq-eqb b.to x.to (sym pair.1)) refl in
     let second : count_of x.from x.to (b ∷ rest) ≡ count_of x.from x.to rest + 1 = count_cons x.from x.to b rest ∙ one_more (has_pair x.from x.to b) (count_of x.from x.to rest) back in

@@ -1,15 +1,16 @@
--- Branches have one list of rows.
-use Rattle.std.proofs.Common.{◌≡◌, ℕ, ◌+◌, ◌<◌, Bool, true, false, List, [], ◌∷◌, refl, sym, ap, ◌∙◌, arith, subst, cond, ◌&&◌}
+-- Branches have one list of rows, in any order.
+use Rattle.std.proofs.Common.{◌≡◌, get_or, ℕ, ◌+◌, ◌<◌, Bool, true, false, List, [], ◌∷◌, refl, sym, ap, ◌∙◌, arith, subst, cond, ◌&&◌}
 use Rattle.std.proofs.lemmas.Bool.{both_ways, eqb-true}
 use Rattle.std.proofs.lemmas.Cmp.{tied_itself}
 use Rattle.std.proofs.lemmas.List.Elements.{All-contains, Contains-append_left, Contains-append_right, Contains-push}
+use Rattle.std.proofs.lemmas.List.Sorted.{All-permutation, sum_by-IsPermutation}
 use Rattle.std.proofs.lemmas.List.Sums.{sum_by-cons}
 use Rattle.std.proofs.lemmas.Map.Keys.{sorted_tail}
 use Rattle.std.proofs.lemmas.Map.Made.{Contains-tail}
 use Rattle.std.proofs.lemmas.Map.Views.{All-after_first}
 use Rattle.std.specs.Cmp.{tied_then, unsigned_tied}
 use Rattle.std.specs.List.{Contains, count_by}
-use Rattle.std.specs.List.Sorted.{IsStrictlySortedBy}
+use Rattle.std.specs.List.Sorted.{IsStrictlySortedBy, IsPermutation}
 use Rattle.std.specs.Ordering.{nat_cmp, is_eq, is_lt, ordering_then, ordering_reverse}
 use Rattle.std.specs.declared.cmp.Ordering.{Ordering}
 use Rattle.std.specs.declared.cmp.Ordering.TheVariants.{Less, Equal, Greater}
@@ -17,7 +18,7 @@ use Rattle.perf_sample.specs.declared.sample.Branch.{Branch}
 use Rattle.ctr_report.specs.declared.rows.Row.{Row}
 use Rattle.ctr_report.specs.Counting.{has_pair, count_of}
 use Rattle.ctr_report.specs.Rows.{row_of, row_cmp, AreRows}
-use Rattle.ctr_report.proofs.CountLemmas.{goes_is}
+use Rattle.ctr_report.proofs.CountLemmas.{pair_is}
 use Rattle.ctr_report.proofs.RowLemmas.{row_total}
 
 head_of : {X : Type 0} (x : X) (xs : List X) → Contains (x ∷ xs) x
@@ -107,7 +108,7 @@ among branches rows other one two r c =
     let own = All-contains (λ (q : Row). (q ≡ row_of branches q.from q.to) × (0 < q.count)) rows r one.only c in
     let count : r.count ≡ count_of r.from r.to branches = ap (λ (q : Row). q.count) own.0 in
     let b = passes (has_pair r.from r.to) branches (omega (arith, own.1, count)) in
-    let pair = goes_is r.from r.to b.0 b.2 in
+    let pair = pair_is r.from r.to b.0 b.2 in
     let there = All-contains (λ (x : Branch). Contains other (row_of branches x.from x.to)) branches b.0 two.each b.1 in
     subst (Contains other)
     (ap (λ (n : ℕ). row_of branches n b.0.to) pair.0 ∙ ap (row_of branches r.from) pair.1 ∙ sym own.0) there
@@ -115,3 +116,23 @@ among branches rows other one two r c =
 pub one_report : (branches : List Branch) (rows other : List Row) → AreRows branches rows → AreRows branches other → rows ≡ other
 one_report branches rows other one two =
     same_rows rows other one.ordered two.ordered (among branches rows other one two) (among branches other rows two one)
+
+-- a pair has the same row in any order of the branches
+row_moved : (branches other : List Branch) (from to : ℕ) → IsPermutation branches other → row_of branches from to ≡ row_of other from to
+row_moved branches other from to moved =
+    let count : count_of from to other ≡ count_of from to branches = sum_by-IsPermutation (λ (x : Branch). cond (has_pair from to x) 1 0) branches other moved in
+    ap (λ (n : ℕ). record { count = n; from = from; to = to }) (sym count)
+
+pub any_order : (branches other : List Branch) (rows : List Row) → IsPermutation branches other → AreRows branches rows → AreRows other rows
+any_order branches other rows moved so = record {
+  each =
+      All-permutation (λ b. Contains rows (row_of other b.from b.to)) branches other moved
+      (λ k d within.
+      let b = get_or branches k d in
+      subst (Contains rows) (row_moved branches other b.from b.to moved) (so.each k d within));
+  only = λ k d within.
+      let r = get_or rows k d in
+      let own = so.only k d within in
+      (own.0 ∙ row_moved branches other r.from r.to moved, own.1);
+  ordered = so.ordered;
+}
