@@ -24,21 +24,21 @@ abbrev pub PlausibleHasNone : Type 0
 PlausibleHasNone = (image : List ℕ) (branches : List Branch) (f : Broken)
     → IsPlausible image branches → IsFault image branches f → ⊥
 
--- where the image has an instruction at an address, its transfer to where it goes is, recorded as a
--- branch, none that source, kind or target refuse
+-- the image has an instruction at the one address that goes to the other: its transfer between them,
+-- recorded as a branch, breaks none of the rules source, kind and target
 abbrev pub TransfersAreFine : Type 0
 TransfersAreFine = (image : List ℕ) (word from to : ℕ) (i : Instr) (taken : Bool) (t : XferType)
     (mispredicted : Bool) (older : List Branch) → word_at image from ≡ Some word → Row word i
     → HasType i taken t → GoesTo i from to
     → Meets Target image (transfer_branch from to (code_of t) mispredicted) older
 
--- and neither is a recorded exception or interrupt, wherever it came from
+-- nor does a recorded exception or interrupt, wherever it came from
 abbrev pub TrapsAreFine : Type 0
 TrapsAreFine = (image : List ℕ) (from to : ℕ) (t : XferType) (mispredicted : Bool)
     (older : List Branch) → (t ≡ Exception) ⊎ (t ≡ Interrupt)
     → Meets Target image (transfer_branch from to (code_of t) mispredicted) older
 
--- code runs straight on over no word, over one that runs on, and over two stretches in a row
+-- code runs straight on over no word, over one that runs on, and over one stretch after another
 abbrev pub StraightOverNone : Type 0
 StraightOverNone = (image : List ℕ) (a : ℕ) → a % 4 ≡ 0 → Straight image a a
 

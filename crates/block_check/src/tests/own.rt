@@ -76,7 +76,7 @@ const ALIGNED: &[u64] = &[
 const MISALIGNED: &[u64] = &[1, 2, 3, 0x8000_0002, 0x8000_0009, 0xFFFF_FFFF_FFFF_FFFF];
 
 const TARGETS: [Targets; 13] = [
-    // jal x0, 8: neither from a multiple of 2^32 further on, nor the next word
+    // jal x0, 8: not the next word, and not 2^32 further on
     Targets {
         word: 0x0080_006F,
         kind: 2,
