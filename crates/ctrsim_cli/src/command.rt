@@ -69,8 +69,8 @@ pub fn command<S: Source, K: Sink, H: HartSet>(
         DemoEnds K.gained sink.old sink.new (H.held harts.new) turns result }
     ensures demo_on_harts { (turns : ℕ) → IsDemo words.now turns →
         CountedOnHarts H.performed K.gained turns harts.old harts.new sink.old sink.new result }
-    ensures shown { (layout : LayoutWords) → IsShow words.now layout → harts.new ≡ harts.old }
-    ensures made { (turns : ℕ) → IsDemo words.now turns → source.new ≡ source.old }
+    ensures harts_stay { (layout : LayoutWords) → IsShow words.now layout → harts.new ≡ harts.old }
+    ensures source_stays { (turns : ℕ) → IsDemo words.now turns → source.new ≡ source.old }
     ensures usage { (result ≡ Some Fault.Usage) ↔ (IsKnown words.now → ⊥) }
     ensures untouched { (IsKnown words.now → ⊥) → (source.new ≡ source.old)
         × (sink.new ≡ sink.old) × (harts.new ≡ harts.old) }

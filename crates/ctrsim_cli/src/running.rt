@@ -60,7 +60,7 @@ pub(crate) fn run<S: Source, H: HartSet, K: Sink>(
     harts: &mut H,
 ) -> Option<Fault>
     requires { H.fresh harts.old }
-    ensures ran { H.tells harts.old → RunEnds (S.left source.old) (S.left source.new)
+    ensures ends { H.tells harts.old → RunEnds (S.left source.old) (S.left source.new)
         K.gained sink.old sink.new (H.held harts.new) result }
     ensures on_harts { ReadOnHarts H.performed K.gained harts.old harts.new sink.old sink.new }
     ensures known { result ≡ Some Fault.Usage → ⊥ }

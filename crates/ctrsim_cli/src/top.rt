@@ -91,7 +91,7 @@ pub fn ctrsim<S: Source, K: Sink, N: Sink, H: HartSet>(
     ensures bytes { (layout : LayoutWords) (bytes : List ℕ) → IsShow words.now layout →
         S.left source.old ≡ Some bytes →
         ShowsBytes K.gained layout bytes (S.left source.new) sink.old sink.new result.fault }
-    ensures shown { (layout : LayoutWords) → IsShow words.now layout → harts.new ≡ harts.old }
+    ensures harts_stay { (layout : LayoutWords) → IsShow words.now layout → harts.new ≡ harts.old }
 
     // What the samples of the turns come to, and the harts after them; nothing is read from the
     // source. Whatever the harts are, it is what was read on them that is counted.
@@ -100,7 +100,7 @@ pub fn ctrsim<S: Source, K: Sink, N: Sink, H: HartSet>(
     ensures demo_on_harts { (turns : ℕ) → IsDemo words.now turns →
         CountedOnHarts H.performed K.gained turns harts.old harts.new sink.old sink.new
         result.fault }
-    ensures made { (turns : ℕ) → IsDemo words.now turns → source.new ≡ source.old }
+    ensures source_stays { (turns : ℕ) → IsDemo words.now turns → source.new ≡ source.old }
 
     // Other words come exactly to this, and touch nothing.
     ensures usage { (result.fault ≡ Some Fault.Usage) ↔ (IsKnown words.now → ⊥) }

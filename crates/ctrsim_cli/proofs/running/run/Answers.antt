@@ -15,8 +15,8 @@ perform_all-requires-clause-follows g c =
     let o = c.in-Ok.ensures.answer in
     (o.header, o.images, o.begins c.args.harts.now c.requires)
 
-pub returns-in-Ok-clause-ran : goal.returns-in-Ok-clause-ran
-returns-in-Ok-clause-ran g c = λ told.
+pub returns-in-Ok-clause-ends : goal.returns-in-Ok-clause-ends
+returns-in-Ok-clause-ends g c = λ told.
     let o = c.in-Ok.ensures.answer in
     let left = g.S.Source.left c.args.source.now in
     let mid = text_of c.open.new.reader.hand (g.S.Source.left c.open.new.source) in
@@ -31,8 +31,8 @@ returns-in-Ok-clause-on_harts g c =
     run_on_harts g.H.HartSet.follows g.H.HartSet.performed g.K.Sink.gained g.met.K.Sink.gained_then c.in-Ok.engine c.args.harts.now c.perform_all.new.harts c.args.sink.now c.perform_all.new.sink _ _ _ _ c.perform_all.result
     c.perform_all.ensures.answer
 
-pub returns-in-Err-clause-ran : goal.returns-in-Err-clause-ran
-returns-in-Err-clause-ran g c = λ told.
+pub returns-in-Err-clause-ends : goal.returns-in-Err-clause-ends
+returns-in-Err-clause-ends g c = λ told.
     let left = g.S.Source.left c.args.source.now in
     let left' = g.S.Source.left c.open.new.source in
     let sink = c.args.sink.now in
