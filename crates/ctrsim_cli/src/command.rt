@@ -1,13 +1,11 @@
 //! What the words of a call ask for, done.
 
 ghost use Rattle.std.specs.Prelude.{◌≡◌, ◌↔◌, ℕ, List, Some};
-ghost use Rattle.perf_sample.specs.Layout.{LayoutWords};
-ghost use Rattle.ctrsim_cli.specs.Demo.{DemoEnds};
-ghost use Rattle.ctrsim_cli.specs.OnHarts.{ReadOnHarts, CountedOnHarts};
+ghost use Rattle.ctrsim_cli.specs.Does.{Does, DoesOnHarts, LeavesSource};
 ghost use Rattle.ctrsim_cli.specs.Performed.{ReadCause, WriteCause, fault_of};
-ghost use Rattle.ctrsim_cli.specs.RunEnds.{RunEnds};
 ghost use Rattle.ctrsim_cli.specs.ShowEnds.{ShowEnds, ShowsBytes};
-ghost use Rattle.ctrsim_cli.specs.Words.{IsRun, IsShow, IsDemo, IsKnown};
+ghost use Rattle.ctrsim_cli.specs.Words.{IsAsked, IsKnown, IsWithin};
+ghost use Rattle.ctrsim_cli.specs.declared.words.Word.{Word};
 
 use crate::demo::demo;
 use crate::fault::Fault;
@@ -47,6 +45,32 @@ fn show_all<S: Source, K: Sink>(layout: Layout, source: &mut S, sink: &mut K) ->
     }
 }
 
+// Does what one word asks for.
+fn follow<S: Source, K: Sink, H: HartSet>(
+    alloc: Global,
+    word: Word,
+    source: &mut S,
+    sink: &mut K,
+    harts: &mut H,
+) -> Option<Fault>
+    requires fresh { H.fresh harts.old }
+    requires within { IsWithin word }
+    ensures does { Does word (H.tells harts.old) (S.left source.old) (S.left source.new) K.gained
+        sink.old sink.new (H.held harts.new) result }
+    ensures on_harts { DoesOnHarts H.performed word K.gained harts.old harts.new sink.old sink.new
+        result }
+    ensures source_stays { LeavesSource word source.old source.new }
+    ensures known { result ≡ Some Fault.Usage → ⊥ }
+    ensures read { ReadCause (S.faults source.old) (S.faults source.new) result }
+    ensures write { WriteCause (K.faults sink.old) (K.faults sink.new) result }
+{
+    match word {
+        Word::Run => run::<S, H, K>(alloc, source, sink, harts),
+        Word::Show(layout) => show_all(layout, source, sink),
+        Word::Demo(turns) => demo::<H, K>(alloc, turns, sink, harts),
+    }
+}
+
 /// Does what the words ask for.
 pub fn command<S: Source, K: Sink, H: HartSet>(
     alloc: Global,
@@ -56,21 +80,13 @@ pub fn command<S: Source, K: Sink, H: HartSet>(
     harts: &mut H,
 ) -> Option<Fault>
     requires { H.fresh harts.old }
-    ensures run { IsRun words.now → H.tells harts.old → RunEnds (S.left source.old)
-        (S.left source.new) K.gained sink.old sink.new (H.held harts.new) result }
-    ensures run_on_harts { IsRun words.now →
-        ReadOnHarts H.performed K.gained harts.old harts.new sink.old sink.new }
-    ensures show { (layout : LayoutWords) → IsShow words.now layout →
-        ShowEnds K.gained layout (S.left source.old) (S.left source.new) sink.old sink.new result }
-    ensures bytes { (layout : LayoutWords) (bytes : List ℕ) → IsShow words.now layout →
-        S.left source.old ≡ Some bytes →
-        ShowsBytes K.gained layout bytes (S.left source.new) sink.old sink.new result }
-    ensures demo { (turns : ℕ) → IsDemo words.now turns → H.tells harts.old →
-        DemoEnds K.gained sink.old sink.new (H.held harts.new) turns result }
-    ensures demo_on_harts { (turns : ℕ) → IsDemo words.now turns →
-        CountedOnHarts H.performed K.gained turns harts.old harts.new sink.old sink.new result }
-    ensures harts_stay { (layout : LayoutWords) → IsShow words.now layout → harts.new ≡ harts.old }
-    ensures source_stays { (turns : ℕ) → IsDemo words.now turns → source.new ≡ source.old }
+    ensures does { (word : Word) → IsAsked words.now word → Does word (H.tells harts.old)
+        (S.left source.old) (S.left source.new) K.gained sink.old sink.new (H.held harts.new)
+        result }
+    ensures on_harts { (word : Word) → IsAsked words.now word → DoesOnHarts H.performed word
+        K.gained harts.old harts.new sink.old sink.new result }
+    ensures source_stays { (word : Word) → IsAsked words.now word →
+        LeavesSource word source.old source.new }
     ensures usage { (result ≡ Some Fault.Usage) ↔ (IsKnown words.now → ⊥) }
     ensures untouched { (IsKnown words.now → ⊥) → (source.new ≡ source.old)
         × (sink.new ≡ sink.old) × (harts.new ≡ harts.old) }
@@ -79,10 +95,6 @@ pub fn command<S: Source, K: Sink, H: HartSet>(
 {
     match word_of(words) {
         None => Some(Fault::Usage),
-        Some(word) => match word {
-            Word::Run => run::<S, H, K>(alloc, source, sink, harts),
-            Word::Show(layout) => show_all(layout, source, sink),
-            Word::Demo(turns) => demo::<H, K>(alloc, turns, sink, harts),
-        },
+        Some(word) => follow(alloc, word, source, sink, harts),
     }
 }
