@@ -9,6 +9,7 @@ import unittest
 sys.path.insert(0, os.path.dirname(os.path.abspath(__file__)))
 
 import cases
+import hosts
 
 COMPILERS = ["riscv64-unknown-elf-gcc", "clang"]
 BOLT = "/usr/lib/llvm-19/bin/llvm-bolt"
@@ -24,6 +25,10 @@ def missing(command):
     for name in COMPILERS + ["perf"]:
         if re.search(r"^%s " % name, command, re.M) and not is_here(name):
             return name
+    if re.search(r"^parallel ", command, re.M) and not (is_here("parallel") and os.environ.get("SECOND")):
+        return "GNU parallel or a second host"
+    if re.search(r"\bsbatch ", command) and not os.environ.get("SLURM_CONF"):
+        return "a cluster"
     if "picolibc.specs" in command and not os.path.exists(PICOLIBC):
         return "picolibc"
     return ""
@@ -217,7 +222,20 @@ class Pages(cases.Case):
     def test_many_runs(self):
         if missing("clang "):
             self.skipTest("no clang with lld")
-        printed, _ = self.run_page("many-runs.md")
+        with hosts.second_host(self.folder) as second, hosts.cluster(self.folder) as slurm:
+            # Without either the blocks that need it are left out, and a line says so.
+            with cases.environment(**dict(second or {}, **(slurm or {}))):
+                printed, told = self.run_page("many-runs.md")
+        if slurm:
+            self.assertEqual(printed.replace(self.folder, "/tmp").count(told), 1, printed[-500:])
+            with open(os.path.join(self.folder, "sweep", "slurm.stacks"), encoding="ascii") as file:
+                self.assertEqual(sum(int(line.split()[-1]) for line in file), 5 * 1003)
+        if second and is_here("parallel"):
+            with open(os.path.join(self.folder, "sweep", "log"), encoding="ascii") as file:
+                runs = [line.split("\t") for line in file.read().splitlines()[1:]]
+            self.assertEqual(len(runs), 20)
+            self.assertEqual({run[1] for run in runs}, {":", "localhost"})
+            self.assertEqual({run[6] for run in runs}, {"0"})
         rows = [line.split() for line in printed.splitlines() if re.fullmatch(r"\w+ \d+ \d+ \d+", line)]
         self.assertEqual(len(rows), 20)
         stacks = {int(depth): int(full) for kind, depth, full, _ in rows if kind == "call_stack"}
