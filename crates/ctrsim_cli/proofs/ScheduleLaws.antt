@@ -14,9 +14,9 @@ use Rattle.replay_engine.specs.Stands.{scheduled_samples, scheduled_from, schedu
 use Rattle.replay_engine.specs.Scheduled.{IsSampleOf, SamplesAreLone, SamplesAreGiven, command_samples, samples_from}
 use Rattle.replay_engine.specs.Start.{plan_of}
 use Rattle.replay_engine.specs.Tasks.{PresentState}
-use Rattle.replay_engine.specs.View.{Plan, subject_of}
-use Rattle.replay_engine.specs.declared.plan.Orders.{Orders}
-use Rattle.replay_engine.specs.declared.sampling.Subject.{Subject}
+use Rattle.replay_engine.specs.View.{Plan, context_of}
+use Rattle.replay_engine.specs.declared.plan.TaskPlan.{TaskPlan}
+use Rattle.replay_engine.specs.declared.sampling.SampleContext.{SampleContext}
 use Rattle.rv_hart.specs.Task.{Irq}
 use Rattle.sched_text.specs.declared.schedule.Command.{Command}
 use Rattle.sched_text.specs.declared.schedule.Command.TheVariants.{Run, Sample as Sampled, Evict, End}
@@ -65,7 +65,7 @@ pub of_lone_runs : SamplesAreGiven → SamplesAreOfLoneRuns
 of_lone_runs given s is = from_here s given is [] s.commands refl
 
 -- fewer steps give the first samples of more
-fewer : (s : Subject) (irqs : List Irq) (m j d : ℕ) (p : PresentState) → (more : List Sample) × (lone_samples s irqs m (j + d) p ≡ lone_samples s irqs m j p ++ more)
+fewer : (s : SampleContext) (irqs : List Irq) (m j d : ℕ) (p : PresentState) → (more : List Sample) × (lone_samples s irqs m (j + d) p ≡ lone_samples s irqs m j p ++ more)
 fewer s irqs m j zero p =
     let number : j + zero ≡ j = omega arith in
     ([], ap (λ (k : ℕ). lone_samples s irqs m k p) number ∙ sym (append-nil (lone_samples s irqs m j p)))
@@ -77,9 +77,9 @@ fewer s irqs m j (suc d) p =
       ap (λ (k : ℕ). lone_samples s irqs m k p) number ∙ ap (λ (xs : List Sample). xs ++ due) r.1 ∙ append_assoc (lone_samples s irqs m j p) r.0 due,
     )
 
-run_fewer : (r : Option PresentState) (q : Option Orders) (plan : Plan) (h t m k n : ℕ) → k < n → (more : List Sample) × (lone_run_samples r q plan h t m n ≡ lone_run_samples r q plan h t m (suc k) ++ more)
+run_fewer : (r : Option PresentState) (q : Option TaskPlan) (plan : Plan) (h t m k n : ℕ) → k < n → (more : List Sample) × (lone_run_samples r q plan h t m n ≡ lone_run_samples r q plan h t m (suc k) ++ more)
 run_fewer (Some p) (Some o) plan h t m k n less =
-    let s = subject_of plan h t o in
+    let s = context_of plan h t o in
     let r = fewer s o.irqs m (suc k) (n - suc k) p in
     let number : n ≡ suc k + (n - suc k) = omega (arith, less) in
     (r.0, ap (λ (j : ℕ). lone_samples s o.irqs m j p) number ∙ r.1)

@@ -27,11 +27,11 @@ use Rattle.replay_engine.specs.Runs.{present_after, is_due, due_sample}
 use Rattle.replay_engine.specs.Samples.{branch_of_entry, sample_of}
 use Rattle.replay_engine.specs.Laws.{SamplesJoin}
 use Rattle.replay_engine.specs.Stands.{lone_samples, lone_run_samples, lone_sample, scheduled_samples, scheduled_of, own_steps, place_after}
-use Rattle.replay_engine.specs.View.{Plan, subject_of}
-use Rattle.replay_engine.specs.Start.{orders_from, tasks_of_lines, task_of_line, irqs_of, first_present}
+use Rattle.replay_engine.specs.View.{Plan, context_of}
+use Rattle.replay_engine.specs.Start.{task_plans_from, tasks_of_lines, task_of_line, irqs_of, first_present}
 use Rattle.replay_engine.specs.Tasks.{PresentState}
-use Rattle.replay_engine.specs.declared.plan.Orders.{Orders}
-use Rattle.replay_engine.specs.declared.sampling.Subject.{Subject}
+use Rattle.replay_engine.specs.declared.plan.TaskPlan.{TaskPlan}
+use Rattle.replay_engine.specs.declared.sampling.SampleContext.{SampleContext}
 use Rattle.rv_hart.specs.Facts.{IsState, StepsKeep, LoneRunKeeps}
 use Rattle.rv_hart.specs.Task.{Irq, AreInterrupts}
 use Rattle.sched_text.specs.declared.schedule.TaskLine.{TaskLine}
@@ -244,7 +244,7 @@ branches_most (x ∷ xs) few =
     omega (arith, sum_by-cons (λ (y : Sample). length y.branches) x xs, All-head Few x xs few, branches_most xs (All-tail Few x xs few))
 
 -- the samples of `demo` have at most 256 branches each
-few_of : (s : Subject) (p : PresentState) → IsState p.state → Few (sample_of s p)
+few_of : (s : SampleContext) (p : PresentState) → IsState p.state → Few (sample_of s p)
 few_of s p is =
     let slots = p.state.unit.stack.slots in
     omega (arith, length-map (valid_entries slots) branch_of_entry, length-filter is_valid slots, count_by-le-length is_valid slots, is.unit.buffer.stack.full, depths p.state.unit.stack.depth)
@@ -263,7 +263,7 @@ due_few : (b : Bool) (x : Sample) → Few x → All Few (cond b (x ∷ []) [])
 due_few true x few = All-push Few [] x (All-nil Few) few
 due_few false x few = All-nil Few
 
-lone_few : PresentsAreSteps → StepsKeep → (s : Subject) (irqs : List Irq) (m n : ℕ) (p : PresentState) → AreInterrupts irqs → IsState p.state → All Few (lone_samples s irqs m n p)
+lone_few : PresentsAreSteps → StepsKeep → (s : SampleContext) (irqs : List Irq) (m n : ℕ) (p : PresentState) → AreInterrupts irqs → IsState p.state → All Few (lone_samples s irqs m n p)
 lone_few steps keep s irqs m zero p are is = All-nil Few
 lone_few steps keep s irqs m (suc n) p are is =
     let q = present_after irqs (m + suc n) p in
@@ -274,7 +274,7 @@ due_count : (b : Bool) (x : Sample) → length (cond b (x ∷ []) []) ≤ 1
 due_count true x = omega arith
 due_count false x = omega arith
 
-lone_count : (s : Subject) (irqs : List Irq) (m n : ℕ) (p : PresentState) → length (lone_samples s irqs m n p) ≤ n
+lone_count : (s : SampleContext) (irqs : List Irq) (m n : ℕ) (p : PresentState) → length (lone_samples s irqs m n p) ≤ n
 lone_count s irqs m zero p = omega arith
 lone_count s irqs m (suc n) p =
     let q = present_after irqs (m + suc n) p in
@@ -282,9 +282,9 @@ lone_count s irqs m (suc n) p =
     omega (arith, all, lone_count s irqs m n p, due_count (is_due s.period q.steps) (sample_of s q))
 
 -- the tasks of `demo` have no interrupts, and their lone runs keep the facts of a state
-no_irqs : (t k : ℕ) (ls : List TaskLine) (o : Orders) → slice_get (orders_from t ls []) k ≡ Some o → AreInterrupts o.irqs
+no_irqs : (t k : ℕ) (ls : List TaskLine) (o : TaskPlan) → slice_get (task_plans_from t ls []) k ≡ Some o → AreInterrupts o.irqs
 no_irqs t k [] o e = absurd (none-some o e)
-no_irqs t zero (l ∷ ls) o e = subst (λ (x : Orders). AreInterrupts x.irqs) (same_Some _ o e) tt
+no_irqs t zero (l ∷ ls) o e = subst (λ (x : TaskPlan). AreInterrupts x.irqs) (same_Some _ o e) tt
 no_irqs t (suc k) (l ∷ ls) o e = no_irqs (suc t) k ls o e
 
 first_is : LoneRunKeeps → (t k n : ℕ) (ls : List TaskLine) (p : PresentState) → slice_get (map first_present (tasks_of_lines t ls (replicate n demo_image) [])) k ≡ Some p → IsState p.state
@@ -295,16 +295,16 @@ first_is keep t zero (suc n) (l ∷ ls) p e =
     subst (λ (x : PresentState). IsState x.state) (same_Some (first_present task) p e) (keep task 0 (record { image = image_bytes; irqs = tt }))
 first_is keep t (suc k) (suc n) (l ∷ ls) p e = first_is keep (suc t) k n ls p e
 
-run_few : PresentsAreSteps → StepsKeep → (r : Option PresentState) (q : Option Orders) (p : Plan) (h t m n : ℕ) → ((x : PresentState) → r ≡ Some x → IsState x.state) → ((o : Orders) → q ≡ Some o → AreInterrupts o.irqs)
+run_few : PresentsAreSteps → StepsKeep → (r : Option PresentState) (q : Option TaskPlan) (p : Plan) (h t m n : ℕ) → ((x : PresentState) → r ≡ Some x → IsState x.state) → ((o : TaskPlan) → q ≡ Some o → AreInterrupts o.irqs)
     → All Few (lone_run_samples r q p h t m n) × (length (lone_run_samples r q p h t m n) ≤ n)
-run_few steps keep (Some x) (Some o) p h t m n state irqs = (lone_few steps keep (subject_of p h t o) o.irqs m n x (irqs o refl) (state x refl), lone_count (subject_of p h t o) o.irqs m n x)
+run_few steps keep (Some x) (Some o) p h t m n state irqs = (lone_few steps keep (context_of p h t o) o.irqs m n x (irqs o refl) (state x refl), lone_count (context_of p h t o) o.irqs m n x)
 run_few steps keep (Some x) None p h t m n state irqs = (All-nil Few, omega arith)
 run_few steps keep None q p h t m n state irqs = (All-nil Few, omega arith)
 
-sample_few : PresentsAreSteps → StepsKeep → (r : Option PresentState) (q : Option Orders) (h : Option ℕ) (p : Plan) (t m : ℕ) → ((x : PresentState) → r ≡ Some x → IsState x.state) → ((o : Orders) → q ≡ Some o → AreInterrupts o.irqs)
+sample_few : PresentsAreSteps → StepsKeep → (r : Option PresentState) (q : Option TaskPlan) (h : Option ℕ) (p : Plan) (t m : ℕ) → ((x : PresentState) → r ≡ Some x → IsState x.state) → ((o : TaskPlan) → q ≡ Some o → AreInterrupts o.irqs)
     → All Few (lone_sample r q h p t m) × (length (lone_sample r q h p t m) ≤ 1)
 sample_few steps keep (Some x) (Some o) (Some h) p t m state irqs =
-    let s = subject_of p h t o in
+    let s = context_of p h t o in
     let y = present_after o.irqs m x in
     (All-push Few [] (sample_of s y) (All-nil Few) (few_of s y (kept steps keep o.irqs m x (irqs o refl) (state x refl))), omega arith)
 sample_few steps keep None q h p t m state irqs = (All-nil Few, omega arith)
@@ -321,7 +321,7 @@ turns_few steps keep lone joins (suc n) =
     let before = turns_few steps keep lone joins n in
     let t = n % 8 in
     let state : (x : PresentState) → slice_get first t ≡ Some x → IsState x.state = λ x e. first_is lone 0 t 8 (demo_lines 8) x e in
-    let irqs : (o : Orders) → slice_get plan.tasks t ≡ Some o → AreInterrupts o.irqs = λ o e. no_irqs 0 t (demo_lines 8) o e in
+    let irqs : (o : TaskPlan) → slice_get plan.tasks t ≡ Some o → AreInterrupts o.irqs = λ o e. no_irqs 0 t (demo_lines 8) o e in
     let a = run_few steps keep (slice_get first t) (slice_get plan.tasks t) plan ((n + n / 8) % 4) t (own_steps cs t) (1 + (n * n + 3 * n) % 97) state irqs in
     let ds = cs ++ run ∷ [] in
     let b = sample_few steps keep (slice_get first t) (slice_get plan.tasks t) (place_after ds t) plan t (own_steps ds t) state irqs in

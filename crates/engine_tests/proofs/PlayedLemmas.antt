@@ -4,14 +4,14 @@ use Rattle.std.specs.Prelude.{slice_get, slice_set, Option, Some, None}
 use Rattle.std.proofs.lemmas.List.{map-append, map-set, length-set}
 use Rattle.std.proofs.lemmas.Option.{same_Some, none-some}
 use Rattle.rv_hart.specs.Hart.{HartState, fresh_harts}
-use Rattle.replay_engine.specs.Counts.{HasRoom, CountsWithin}
+use Rattle.replay_engine.specs.Counts.{CountsHaveRoom, CountsWithin}
 use Rattle.replay_engine.specs.Start.{size_of, mem_of}
 use Rattle.sched_text.specs.declared.schedule.TaskLine.{TaskLine}
 use Rattle.replay_engine.specs.Tasks.{TaskState, PresentState, AreInverse, PlacesAgree, state_at, state_by, present_state, places, residents, resident_of}
 use Rattle.replay_engine.specs.View.{view_of, accesses_of, steps_of}
 use Rattle.engine_tests.specs.Played.{IsPlayed}
 
-pub has_room : (n : ℕ) (ts : List TaskState) (hs : List HartState) → n ≤ 1000000 → IsPlayed n ts hs → HasRoom (2 ^ 61) (view_of ts hs)
+pub has_room : (n : ℕ) (ts : List TaskState) (hs : List HartState) → n ≤ 1000000 → IsPlayed n ts hs → CountsHaveRoom (2 ^ 61) (view_of ts hs)
 has_room n ts hs few p = record {
   few_accesses = λ h k e. omega (arith, few, p.counts.few_accesses h k e);
   few_steps = λ h k e. omega (arith, few, p.counts.few_steps h k e);

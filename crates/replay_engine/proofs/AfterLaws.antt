@@ -10,7 +10,7 @@ use Rattle.sched_text.specs.declared.schedule.Command.TheVariants.{End}
 use Rattle.replay_engine.specs.declared.fault.PerformFault.{PerformFault}
 use Rattle.replay_engine.specs.declared.fault.PerformFault.TheVariants.{NoTask, NoHart, NotResident}
 use Rattle.replay_engine.specs.declared.fault.PerformFault.TheVariants.{EmptyHart, Write}
-use Rattle.replay_engine.specs.declared.plan.Orders.{Orders}
+use Rattle.replay_engine.specs.declared.plan.TaskPlan.{TaskPlan}
 use Rattle.ctr_port.specs.Sink.{GainsPart}
 use Rattle.rv_hart.specs.Hart.{HartState}
 use Rattle.replay_engine.specs.Tasks.{TaskState, PresentState, AreInverse, PlacesAgree}
@@ -117,7 +117,7 @@ whole gained old new plan first cs ts ts' hs hs' c few s o =
     }
 
 -- the samples of one step more of a run
-one_more : (p : Option PresentState) (o : Option Orders) (plan : Plan) (h t n : ℕ)
+one_more : (p : Option PresentState) (o : Option TaskPlan) (plan : Plan) (h t n : ℕ)
     → samples_of_run p o plan h t (suc n)
     ≡ samples_of_run p o plan h t n ++ due_by p o plan h t (suc n)
 one_more (Some p) (Some o) plan h t n = refl

@@ -10,7 +10,7 @@ use Rattle.rv_hart.specs.Hart.{HartState, fresh_hart}
 use Rattle.sched_text.specs.declared.schedule.Command.{Command}
 use Rattle.sched_text.specs.declared.schedule.Command.TheVariants.{Run, Sample as Sampled, Evict}
 use Rattle.sched_text.specs.declared.schedule.Command.TheVariants.{End}
-use Rattle.replay_engine.specs.declared.plan.Orders.{Orders}
+use Rattle.replay_engine.specs.declared.plan.TaskPlan.{TaskPlan}
 use Rattle.replay_engine.specs.HartsAt.{IsAt, HoldsState, StandingHartsAreAt, ResidentsAreLone}
 use Rattle.replay_engine.specs.Outcome.{IsUntouched, OthersStay}
 use Rattle.replay_engine.specs.Placing.{IsOn}
@@ -91,7 +91,7 @@ got_same o x y e f = some_of x y (sym e ∙ f)
 -- the core and the unit of a hart with a resident
 resident_runs : (plan : Plan) (first : List PresentState) (cs : List Command) (ts : List TaskState)
     (hs : List HartState) (h t : ℕ) (y : HartState)
-    (p : PresentState) (o : Orders) → ViewStandsFor plan first cs (view_of ts hs) → slice_get hs h
+    (p : PresentState) (o : TaskPlan) → ViewStandsFor plan first cs (view_of ts hs) → slice_get hs h
     ≡ Some y → y.resident ≡ Some t
     → slice_get first t ≡ Some p → slice_get plan.tasks t ≡ Some o → (x : TaskState)
     × (state_on y x ≡ present_after o.irqs (own_steps cs t) p)

@@ -15,7 +15,7 @@ use Rattle.sched_text.specs.declared.schedule.Command.TheVariants.{End}
 use Rattle.replay_engine.specs.declared.fault.PerformFault.{PerformFault}
 use Rattle.replay_engine.specs.declared.fault.PerformFault.TheVariants.{NoTask, NoHart, NotResident}
 use Rattle.replay_engine.specs.declared.fault.PerformFault.TheVariants.{EmptyHart, Write}
-use Rattle.replay_engine.specs.declared.plan.Orders.{Orders}
+use Rattle.replay_engine.specs.declared.plan.TaskPlan.{TaskPlan}
 use Rattle.replay_engine.specs.Engine.{IsEngine, HasWholeArea, AreBelow, AreApart, memory_size}
 use Rattle.replay_engine.specs.Outcome.{IsOutcome, refusal}
 use Rattle.replay_engine.specs.Runs.{present_after}
@@ -133,7 +133,7 @@ steps_size keeps irqs (suc n) p =
     let q = present_after irqs n p in
     keeps (causes irqs q.steps) q.state ∙ steps_size keeps irqs n p
 
-ran_sizes : MemoryKeepsItsSize → (p : Option PresentState) (o : Option Orders) (plan : Plan)
+ran_sizes : MemoryKeepsItsSize → (p : Option PresentState) (o : Option TaskPlan) (plan : Plan)
     (h t n : ℕ) (v : View) → slice_get v.present_states t ≡ p
     → map size_of (after_running_by p o plan h t n v).present_states ≡ map size_of v.present_states
 ran_sizes keeps (Some p) (Some o) plan h t n v at =

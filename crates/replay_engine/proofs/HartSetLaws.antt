@@ -15,7 +15,7 @@ use Rattle.sched_text.specs.declared.schedule.Header.{Header}
 use Rattle.replay_engine.specs.declared.fault.PerformFault.{PerformFault}
 use Rattle.replay_engine.specs.declared.fault.PerformFault.TheVariants.{NoTask, NoHart, NotResident}
 use Rattle.replay_engine.specs.declared.fault.PerformFault.TheVariants.{EmptyHart, Write}
-use Rattle.replay_engine.specs.declared.plan.Orders.{Orders}
+use Rattle.replay_engine.specs.declared.plan.TaskPlan.{TaskPlan}
 use Rattle.replay_engine.specs.Counts.{CountsWithin}
 use Rattle.replay_engine.specs.Engine.{EngineState}
 use Rattle.replay_engine.specs.HartSet.{StopsAt, IsHeldUp, GoesOn, StandsBehind}
@@ -30,7 +30,7 @@ use Rattle.replay_engine.specs.Stands.{lone_samples, own_steps, place_after}
 use Rattle.replay_engine.specs.StandsAfter.{StandsAfter, StandsCutOff}
 use Rattle.replay_engine.specs.Start.{plan_of, sample_layout}
 use Rattle.replay_engine.specs.Tasks.{TaskState, PresentState, PlacesAgree}
-use Rattle.replay_engine.specs.View.{View, Plan, view_of, subject_of, samples_of_command}
+use Rattle.replay_engine.specs.View.{View, Plan, view_of, context_of, samples_of_command}
 use Rattle.replay_engine.proofs.AfterLaws.{stands_after, counts_after}
 use Rattle.replay_engine.proofs.AtLaws.{standing_harts_are_at}
 use Rattle.replay_engine.proofs.EngineLaws.{refusals_agree}
@@ -124,12 +124,12 @@ due_one true x layout last cut = refl
 due_one false x layout last cut = uncut last cut
 
 -- the last sample of so many steps and one more
-one_next : (r : Option PresentState) (q : Option Orders) (plan : Plan) (h t m n : ℕ)
+one_next : (r : Option PresentState) (q : Option TaskPlan) (plan : Plan) (h t m n : ℕ)
     (next : List Sample) (layout : LayoutWords) (last : List ℕ)
     → lone_run_samples r q plan h t m (suc n) ≡ lone_run_samples r q plan h t m n ++ next →
     IsCut last (spellings layout next) → (x : Sample) × (next ≡ x ∷ [])
 one_next (Some p) (Some o) plan h t m n next layout last are cut =
-    let s = subject_of plan h t o in
+    let s = context_of plan h t o in
     let p' = present_after o.irqs (m + suc n) p in
     let due : next ≡ cond (is_due s.period p'.steps) (sample_of s p' ∷ []) [] =
     sym (append_cancel_left (lone_samples s o.irqs m n p)
@@ -143,11 +143,11 @@ one_next (Some p) None plan h t m n next layout last are cut =
 one_next None q plan h t m n next layout last are cut =
     uncut last (subst (λ (xs : List Sample). IsCut last (spellings layout xs)) (sym are) cut)
 
-one_sample : (r : Option PresentState) (q : Option Orders) (h : Option ℕ) (plan : Plan) (t m k : ℕ)
+one_sample : (r : Option PresentState) (q : Option TaskPlan) (h : Option ℕ) (plan : Plan) (t m k : ℕ)
     (layout : LayoutWords) → k < length (spellings layout (lone_sample r q h plan t m)) →
     (x : Sample) × (lone_sample r q h plan t m ≡ x ∷ [])
 one_sample (Some p) (Some o) (Some h) plan t m k layout less =
-    (sample_of (subject_of plan h t o) (present_after o.irqs m p), refl)
+    (sample_of (context_of plan h t o) (present_after o.irqs m p), refl)
 one_sample None q h plan t m k layout less = absurd (omega (arith, less))
 one_sample (Some p) None h plan t m k layout less = absurd (omega (arith, less))
 one_sample (Some p) (Some o) None plan t m k layout less = absurd (omega (arith, less))

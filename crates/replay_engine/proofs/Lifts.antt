@@ -19,11 +19,11 @@ use Rattle.replay_engine.proofs.Inverses.{inverse_off, inverse_on}
 use Rattle.replay_engine.proofs.Moves.{left_is, arrived_is}
 use Rattle.replay_engine.proofs.Makes.{room_left_by, room_arrived_by}
 use Rattle.replay_engine.proofs.Steps.{most_entries}
-use Rattle.replay_engine.specs.Counts.{HasRoom}
+use Rattle.replay_engine.specs.Counts.{CountsHaveRoom}
 
 -- a hart whose accesses leave room
 pub room_at : (n : ℕ) (ts : List TaskState) (hs : List HartState) (h : ℕ) (y : HartState) →
-    HasRoom n (view_of ts hs) → slice_get hs h ≡ Some y → y.accesses ≤ n
+    CountsHaveRoom n (view_of ts hs) → slice_get hs h ≡ Some y → y.accesses ≤ n
 room_at n ts hs h y room got = room.few_accesses h y.accesses (get_map accesses_of hs h y got)
 
 pub within_harts : (ts : List TaskState) (hs : List HartState) (t h : ℕ) → PlacesAgree ts hs →
@@ -173,16 +173,16 @@ arrived_all ts ts' hs hs' t h kept nowhere free tasks harts =
       others = others_stay hs hs' h (on_the_hart x y t) eh;
     }
 
-pub room_left : (n t h : ℕ) (v w : View) → w ≡ after_leaving t h v → HasRoom n v →
-    HasRoom (n + 1030) w
+pub room_left : (n t h : ℕ) (v w : View) → w ≡ after_leaving t h v → CountsHaveRoom n v →
+    CountsHaveRoom (n + 1030) w
 room_left n t h v w e room =
-    subst (HasRoom (n + 1030)) (sym e)
+    subst (CountsHaveRoom (n + 1030)) (sym e)
     (room_left_by most_entries (slice_get v.present_states t) t h n v room)
 
-pub room_arrived : (n t h : ℕ) (v w : View) → w ≡ after_arriving t h v → HasRoom n v →
-    HasRoom (n + 1030) w
+pub room_arrived : (n t h : ℕ) (v w : View) → w ≡ after_arriving t h v → CountsHaveRoom n v →
+    CountsHaveRoom (n + 1030) w
 room_arrived n t h v w e room =
-    subst (HasRoom (n + 1030)) (sym e)
+    subst (CountsHaveRoom (n + 1030)) (sym e)
     (room_arrived_by most_entries (slice_get v.present_states t) t h n v room)
 
 pub lift_task : (f : TaskState → HartState → TaskState) (items ts : List TaskState) (t : ℕ)
@@ -208,7 +208,7 @@ present_steps None hs x = refl
 present_steps (Some h) hs x = on_steps (slice_get hs h) x
 
 pub count_at : (n : ℕ) (ts : List TaskState) (hs : List HartState) (t : ℕ) (x : TaskState) →
-    HasRoom n (view_of ts hs) → slice_get ts t ≡ Some x → x.steps ≤ 2 ^ 61
+    CountsHaveRoom n (view_of ts hs) → slice_get ts t ≡ Some x → x.steps ≤ 2 ^ 61
 count_at n ts hs t x room got =
     omega (
       arith,
@@ -218,5 +218,5 @@ count_at n ts hs t x room got =
     )
 
 pub steps_room : (n : ℕ) (ts : List TaskState) (hs : List HartState) (h : ℕ) (y : HartState) →
-    HasRoom n (view_of ts hs) → slice_get hs h ≡ Some y → y.steps ≤ 2 ^ 61
+    CountsHaveRoom n (view_of ts hs) → slice_get hs h ≡ Some y → y.steps ≤ 2 ^ 61
 steps_room n ts hs h y room got = room.few_steps h y.steps (get_map steps_of hs h y got)

@@ -9,44 +9,44 @@ use Rattle.rv_hart.specs.Facts.{AreBytes, IsTask}
 use Rattle.rv_hart.specs.Task.{Irq, Task, AreInterrupts}
 use Rattle.sched_text.specs.declared.schedule.IrqLine.{IrqLine}
 use Rattle.sched_text.specs.declared.schedule.TaskLine.{TaskLine}
-use Rattle.replay_engine.specs.declared.plan.Orders.{Orders}
+use Rattle.replay_engine.specs.declared.plan.TaskPlan.{TaskPlan}
 use Rattle.replay_engine.specs.ByLine.{PlansSayHeaders, HeadersGiveTasks, HeadersGiveSoundTasks}
-use Rattle.replay_engine.specs.Start.{irqs_of, orders_from}
+use Rattle.replay_engine.specs.Start.{irqs_of, task_plans_from}
 use Rattle.replay_engine.specs.Start.{task_of_line, tasks_of_lines}
 use Rattle.replay_engine.proofs.EngineLaws.{headers_give_interrupts}
 use Rattle.replay_engine.proofs.Items.{some_of}
-use Rattle.replay_engine.proofs.StartLaws.{length_orders}
+use Rattle.replay_engine.proofs.StartLaws.{length_task_plans}
 
-abbrev pub order_of : TaskLine → List Irq → Orders
-order_of line irqs = record { memory = line.mem; period = line.period; irqs = irqs }
+abbrev pub task_plan_of : TaskLine → List Irq → TaskPlan
+task_plan_of line irqs = record { memory = line.mem; period = line.period; irqs = irqs }
 
-pub orders_at : (u : ℕ) (ls : List TaskLine) (irqs : List IrqLine) (t : ℕ) (line : TaskLine) →
-    slice_get ls t ≡ Some line → slice_get (orders_from u ls irqs) t
-    ≡ Some (order_of line (irqs_of (u + t) irqs))
-orders_at u [] irqs t line e = absurd (none-some line e)
-orders_at u (l ∷ ls) irqs zero line e =
+pub task_plans_at : (u : ℕ) (ls : List TaskLine) (irqs : List IrqLine) (t : ℕ) (line : TaskLine) →
+    slice_get ls t ≡ Some line → slice_get (task_plans_from u ls irqs) t
+    ≡ Some (task_plan_of line (irqs_of (u + t) irqs))
+task_plans_at u [] irqs t line e = absurd (none-some line e)
+task_plans_at u (l ∷ ls) irqs zero line e =
     let none : u ≡ u + 0 = omega arith in
-    ap (λ (k : ℕ). Some (order_of l (irqs_of k irqs))) none
-    ∙ ap (λ (x : TaskLine). Some (order_of x (irqs_of (u + 0) irqs))) (some_of l line e)
-orders_at u (l ∷ ls) irqs (suc t) line e =
+    ap (λ (k : ℕ). Some (task_plan_of l (irqs_of k irqs))) none
+    ∙ ap (λ (x : TaskLine). Some (task_plan_of x (irqs_of (u + 0) irqs))) (some_of l line e)
+task_plans_at u (l ∷ ls) irqs (suc t) line e =
     let one : suc u + t ≡ u + suc t = omega arith in
-    orders_at (suc u) ls irqs t line e
-    ∙ ap (λ (k : ℕ). Some (order_of line (irqs_of k irqs))) one
+    task_plans_at (suc u) ls irqs t line e
+    ∙ ap (λ (k : ℕ). Some (task_plan_of line (irqs_of k irqs))) one
 
 pub plans_say_headers : PlansSayHeaders
 plans_say_headers h = record {
   harts = refl;
   layout = refl;
   branch = refl;
-  as_many = length_orders 0 h.tasks h.irqs;
+  as_many = length_task_plans 0 h.tasks h.irqs;
   each = λ t line o at there.
       let number : 0 + t ≡ t = omega arith in
-      let is = some_of _ o (sym (orders_at 0 h.tasks h.irqs t line at) ∙ there) in
+      let is = some_of _ o (sym (task_plans_at 0 h.tasks h.irqs t line at) ∙ there) in
       record {
-        memory = ap (λ (x : Orders). x.memory) (sym is);
-        period = ap (λ (x : Orders). x.period) (sym is);
+        memory = ap (λ (x : TaskPlan). x.memory) (sym is);
+        period = ap (λ (x : TaskPlan). x.period) (sym is);
         irqs =
-            ap (λ (x : Orders). x.irqs) (sym is) ∙ ap (λ (k : ℕ). irqs_of k h.irqs) number;
+            ap (λ (x : TaskPlan). x.irqs) (sym is) ∙ ap (λ (k : ℕ). irqs_of k h.irqs) number;
       };
 }
 
@@ -74,12 +74,12 @@ tasks_at u (l ∷ ls) (i ∷ is) irqs (suc t) line image e f =
     ∙ ap (λ (k : ℕ). Some (task_of_line line image (irqs_of k irqs))) one
 
 planned_from : (u : ℕ) (ls : List TaskLine) (is : List (List ℕ)) (irqs : List IrqLine) (t : ℕ)
-    (task : Task) (o : Orders) → slice_get (tasks_of_lines u ls is irqs) t ≡ Some task →
-    slice_get (orders_from u ls irqs) t ≡ Some o → o.irqs ≡ task.irqs
+    (task : Task) (o : TaskPlan) → slice_get (tasks_of_lines u ls is irqs) t ≡ Some task →
+    slice_get (task_plans_from u ls irqs) t ≡ Some o → o.irqs ≡ task.irqs
 planned_from u [] is irqs t task o e f = absurd (none-some task e)
 planned_from u (l ∷ ls) [] irqs t task o e f = absurd (none-some task e)
 planned_from u (l ∷ ls) (i ∷ is) irqs zero task o e f =
-    ap (λ (x : Orders). x.irqs) (sym (some_of _ o f))
+    ap (λ (x : TaskPlan). x.irqs) (sym (some_of _ o f))
     ∙ ap (λ (x : Task). x.irqs) (some_of (task_of_line l i (irqs_of u irqs)) task e)
 planned_from u (l ∷ ls) (i ∷ is) irqs (suc t) task o e f =
     planned_from (suc u) ls is irqs t task o e f

@@ -8,7 +8,7 @@ use Rattle.replay_engine.specs.Start.{first_present, lone_present}
 use Rattle.replay_engine.specs.Tasks.{PresentState}
 use Rattle.replay_engine.specs.View.{Plan}
 use Rattle.replay_engine.specs.Visible.{IsPlanOf}
-use Rattle.replay_engine.specs.declared.plan.Orders.{Orders}
+use Rattle.replay_engine.specs.declared.plan.TaskPlan.{TaskPlan}
 
 pub lone_is : (t : Task) (n : ℕ) → present_after t.irqs n (first_present t) ≡ lone_present t n
 lone_is t zero = refl
@@ -19,7 +19,7 @@ lone_is t (suc n) =
 
 -- the states of a task from its first are those of its lone run
 pub lone_state : (plan : Plan) (tasks : List Task) → IsPlanOf tasks plan → (t : ℕ) (p : PresentState)
-    (o : Orders) → slice_get plan.tasks t ≡ Some o → (task : Task) → slice_get tasks t ≡ Some task →
+    (o : TaskPlan) → slice_get plan.tasks t ≡ Some o → (task : Task) → slice_get tasks t ≡ Some task →
     first_present task ≡ p → (k : ℕ) → present_after o.irqs k p ≡ lone_present task k
 lone_state plan tasks ordered t p o there task at first k =
     ap (λ (irqs : List Irq). present_after irqs k p) (ordered t task o at there)

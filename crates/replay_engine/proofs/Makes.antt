@@ -10,8 +10,8 @@ use Rattle.replay_engine.specs.Tasks.{TaskState, PresentState, AreInverse, state
 use Rattle.replay_engine.specs.Tasks.{present_state, present_states, place_of}
 use Rattle.replay_engine.specs.Tasks.{places, resident_of, residents}
 use Rattle.replay_engine.specs.Runs.{sampling_costs}
-use Rattle.replay_engine.specs.declared.plan.Orders.{Orders}
-use Rattle.replay_engine.specs.View.{View, view_of, steps_of, accesses_of, add_at, Plan, subject_of}
+use Rattle.replay_engine.specs.declared.plan.TaskPlan.{TaskPlan}
+use Rattle.replay_engine.specs.View.{View, view_of, steps_of, accesses_of, add_at, Plan, context_of}
 use Rattle.replay_engine.specs.View.{after_leaving_by, after_arriving_by}
 use Rattle.replay_engine.specs.View.{after_running_by, after_running}
 use Rattle.replay_engine.specs.View.{after_sampling_by}
@@ -21,14 +21,14 @@ use Rattle.replay_engine.proofs.Inverses.{alone_there}
 use Rattle.replay_engine.proofs.Moves.{view_is, viewed_one, present_there}
 use Rattle.replay_engine.specs.Samples.{sample_cost}
 use Rattle.replay_engine.specs.Parts.{StepsMade}
-use Rattle.replay_engine.specs.Counts.{HasRoom}
+use Rattle.replay_engine.specs.Counts.{CountsHaveRoom}
 
-pub ran_is : (plan : Plan) (o : Orders) (ts : List TaskState) (hs : List HartState) (t h n : ℕ)
+pub ran_is : (plan : Plan) (o : TaskPlan) (ts : List TaskState) (hs : List HartState) (t h n : ℕ)
     (x x' : TaskState) (y y' : HartState)
     → AreInverse (places ts) (residents hs)
     → slice_get ts t ≡ Some x → slice_get hs h ≡ Some y → slice_get plan.tasks t ≡ Some o → x.place
     ≡ Some h
-    → StepsMade y y' x x' (subject_of plan h t o) o.irqs n
+    → StepsMade y y' x x' (context_of plan h t o) o.irqs n
     → view_of (slice_set ts t x') (slice_set hs h y') ≡ after_running plan h t n (view_of ts hs)
 ran_is plan o ts hs t h n x x' y y' inverse at got ordered place made =
     let p : slice_get (present_states ts hs) t ≡ Some (state_on y x) =
@@ -49,9 +49,9 @@ ran_is plan o ts hs t h n x x' y y' inverse at got ordered place made =
     ∙ sym (add_got (map steps_of hs) h n y.steps (get_map steps_of hs h y got)))
     (ap (slice_set (map accesses_of hs) h) made.accesses
     ∙ sym (add_got (map accesses_of hs) h
-    (sampling_costs (subject_of plan h t o) o.irqs n (state_on y x)) y.accesses
+    (sampling_costs (context_of plan h t o) o.irqs n (state_on y x)) y.accesses
     (get_map accesses_of hs h y got)))
-    ∙ ap (λ (q : Option Orders). after_running_by (Some (state_on y x)) q plan h t n
+    ∙ ap (λ (q : Option TaskPlan). after_running_by (Some (state_on y x)) q plan h t n
     (view_of ts hs)) (sym ordered)
     ∙ ap (λ (q : Option PresentState). after_running_by q (slice_get plan.tasks t) plan h t n
     (view_of ts hs)) (sym p)
@@ -102,7 +102,7 @@ add_within (x ∷ xs) (suc i) k n m all few zero j e = omega (arith, all zero j 
 add_within (x ∷ xs) (suc i) k n m all few (suc h) j e =
     add_within xs i k n m (λ g l f. all (suc g) l f) few h j e
 
-pub more_room : (n m : ℕ) (v : View) → n ≤ m → HasRoom n v → HasRoom m v
+pub more_room : (n m : ℕ) (v : View) → n ≤ m → CountsHaveRoom n v → CountsHaveRoom m v
 more_room n m v h room = record {
   few_accesses =
       λ g k e. omega (arith, h, room.few_accesses g k e);
@@ -112,7 +112,7 @@ more_room n m v h room = record {
 }
 
 pub room_left_by : (few : (d : Depth) → entries_of d ≤ 256) (p : Option PresentState) (t h n : ℕ)
-    (v : View) → HasRoom n v → HasRoom (n + 1030) (after_leaving_by p t h v)
+    (v : View) → CountsHaveRoom n v → CountsHaveRoom (n + 1030) (after_leaving_by p t h v)
 room_left_by few None t h n v room = more_room n (n + 1030) v (omega arith) room
 room_left_by few (Some p) t h n v room = record {
   few_accesses = add_within v.accesses h (5 + 4 * entries_of p.state.unit.stack.depth)
@@ -122,7 +122,7 @@ room_left_by few (Some p) t h n v room = record {
 }
 
 pub room_arrived_by : (few : (d : Depth) → entries_of d ≤ 256) (p : Option PresentState) (t h n : ℕ)
-    (v : View) → HasRoom n v → HasRoom (n + 1030) (after_arriving_by p t h v)
+    (v : View) → CountsHaveRoom n v → CountsHaveRoom (n + 1030) (after_arriving_by p t h v)
 room_arrived_by few None t h n v room = more_room n (n + 1030) v (omega arith) room
 room_arrived_by few (Some p) t h n v room = record {
   few_accesses = add_within v.accesses h (6 + 4 * entries_of p.state.unit.stack.depth)

@@ -8,13 +8,13 @@ use Rattle.perf_sample.specs.Layout.{LayoutWords}
 use Rattle.perf_sample.specs.Spelling.{spelling}
 use Rattle.rv_hart.specs.Hart.{HartState}
 use Rattle.sched_text.specs.declared.schedule.Command.TheVariants.{Run, Sample as Sampled}
-use Rattle.replay_engine.specs.declared.plan.Orders.{Orders}
+use Rattle.replay_engine.specs.declared.plan.TaskPlan.{TaskPlan}
 use Rattle.replay_engine.specs.Tasks.{TaskState, PresentState, AreInverse, PlacesAgree, state_on}
 use Rattle.replay_engine.specs.Tasks.{present_states, place_of, places, resident_of, residents}
 use Rattle.replay_engine.specs.Tasks.{present_state}
 use Rattle.replay_engine.specs.Samples.{sample_of, sample_cost}
 use Rattle.replay_engine.specs.Runs.{present_after, samples_of_steps, due_sample, spellings, IsCut}
-use Rattle.replay_engine.specs.View.{View, Plan, view_of, subject_of, after_leaving_by}
+use Rattle.replay_engine.specs.View.{View, Plan, view_of, context_of, after_leaving_by}
 use Rattle.replay_engine.specs.View.{after_arriving_by, after_arriving}
 use Rattle.replay_engine.specs.View.{after_freeing_by, after_freeing, after_parting_by}
 use Rattle.replay_engine.specs.View.{after_parting, is_on, after_bringing, after_running_by}
@@ -67,13 +67,13 @@ brought_presents t h v =
     ∙ freed_presents (slice_get v1.residents h) h v1
     ∙ parted_presents (slice_get v.places t) t v)
 
-pub ran_places : (p : Option PresentState) (o : Option Orders) (plan : Plan) (h t n : ℕ) (v : View)
+pub ran_places : (p : Option PresentState) (o : Option TaskPlan) (plan : Plan) (h t n : ℕ) (v : View)
     → (after_running_by p o plan h t n v).places ≡ v.places
 ran_places (Some p) (Some o) plan h t n v = refl
 ran_places (Some p) None plan h t n v = refl
 ran_places None o plan h t n v = refl
 
-pub ran_residents : (p : Option PresentState) (o : Option Orders) (plan : Plan) (h t n : ℕ)
+pub ran_residents : (p : Option PresentState) (o : Option TaskPlan) (plan : Plan) (h t n : ℕ)
     (v : View) → (after_running_by p o plan h t n v).residents ≡ v.residents
 ran_residents (Some p) (Some o) plan h t n v = refl
 ran_residents (Some p) None plan h t n v = refl
@@ -94,14 +94,14 @@ pub record Ran (plan : Plan) (ts ts1 ts' : List TaskState) (hs hs1 hs' : List Ha
   pub kept : PlacesAgree ts' hs'
   pub state : slice_get (present_states ts hs) t ≡ Some (state_on y x)
 
-pub ran_all : (plan : Plan) (o : Orders) (ts ts1 ts' : List TaskState) (hs hs1 hs' : List HartState)
+pub ran_all : (plan : Plan) (o : TaskPlan) (ts ts1 ts' : List TaskState) (hs hs1 hs' : List HartState)
     (h t n : ℕ) (x x' : TaskState) (y y' : HartState)
     → PlacesAgree ts1 hs1 → slice_get (places ts1) t ≡ Some (Some h) → view_of ts1 hs1
     ≡ after_bringing t h (view_of ts hs)
     → slice_get plan.tasks t ≡ Some o
     → slice_get ts1 t ≡ Some x → slice_get hs1 h ≡ Some y → ts' ≡ slice_set ts1 t x' → hs'
     ≡ slice_set hs1 h y'
-    → StepsMade y y' x x' (subject_of plan h t o) o.irqs n
+    → StepsMade y y' x x' (context_of plan h t o) o.irqs n
     → Ran plan ts ts1 ts' hs hs1 hs' h t n x y
 ran_all plan o ts ts1 ts' hs hs1 hs' h t n x x' y y' kept there brings ordered at got tasks harts
     made =
@@ -135,23 +135,23 @@ allowed_run plan v h t n there within =
     rw (is_lt t (length plan.tasks) there, is_lt h plan.harts within) refl
 
 pub run_done : {K : Type 0} (gained : K → List ℕ → K → Type 0) (old new : K) (plan : Plan)
-    (o : Orders) (ts ts1 ts' : List TaskState) (hs hs1 hs' : List HartState) (h t n : ℕ)
+    (o : TaskPlan) (ts ts1 ts' : List TaskState) (hs hs1 hs' : List HartState) (h t n : ℕ)
     → t < length plan.tasks → h < plan.harts
     → PlacesAgree ts1 hs1 → slice_get (places ts1) t ≡ Some (Some h) → view_of ts1 hs1
     ≡ after_bringing t h (view_of ts hs)
     → ((k : ℕ) → (k ≡ h → ⊥) → (slice_get (places ts) t ≡ Some (Some k) → ⊥) → slice_get hs1 k
     ≡ slice_get hs k)
     → slice_get plan.tasks t ≡ Some o
-    → RunAmong gained old new ts1 ts' hs1 hs' (subject_of plan h t o) o.irqs n
+    → RunAmong gained old new ts1 ts' hs1 hs' (context_of plan h t o) o.irqs n
     → IsPerformed gained old new plan ts ts' hs hs' (Run h t n)
 run_done gained old new plan o ts ts1 ts' hs hs1 hs' h t n few within kept there brings stay ordered
     r =
     let all = ran_all plan o ts ts1 ts' hs hs1 hs' h t n r.x r.x' r.y r.y' kept there brings ordered
     r.task r.hart r.tasks r.harts r.made.stepped in
-    let told : samples_of_steps (subject_of plan h t o) o.irqs n (state_on r.y r.x)
+    let told : samples_of_steps (context_of plan h t o) o.irqs n (state_on r.y r.x)
     ≡ samples_of_command plan (view_of ts hs) (Run h t n)
     = sym (ap (λ (p : Option PresentState). samples_of_run p (slice_get plan.tasks t) plan h t n)
-    all.state ∙ ap (λ (q : Option Orders). samples_of_run (Some (state_on r.y r.x))
+    all.state ∙ ap (λ (q : Option TaskPlan). samples_of_run (Some (state_on r.y r.x))
     q plan h t n) ordered) in
     record {
       allowed = allowed_run plan (view_of ts hs) h t n few within;
@@ -165,14 +165,14 @@ run_done gained old new plan o ts ts1 ts' hs hs1 hs' h t n few within kept there
     }
 
 pub run_broke : {K : Type 0} (gained : K → List ℕ → K → Type 0) (old new : K) (plan : Plan)
-    (o : Orders) (ts ts1 ts' : List TaskState) (hs hs1 hs' : List HartState) (h t n : ℕ)
+    (o : TaskPlan) (ts ts1 ts' : List TaskState) (hs hs1 hs' : List HartState) (h t n : ℕ)
     → t < length plan.tasks → h < plan.harts
     → PlacesAgree ts1 hs1 → slice_get (places ts1) t ≡ Some (Some h) → view_of ts1 hs1
     ≡ after_bringing t h (view_of ts hs)
     → ((k : ℕ) → (k ≡ h → ⊥) → (slice_get (places ts) t ≡ Some (Some k) → ⊥) → slice_get hs1 k
     ≡ slice_get hs k)
     → slice_get plan.tasks t ≡ Some o
-    → CutAmong gained old new ts1 ts' hs1 hs' (subject_of plan h t o) o.irqs n
+    → CutAmong gained old new ts1 ts' hs1 hs' (context_of plan h t o) o.irqs n
     → IsCutOff gained old new plan ts ts' hs hs' (Run h t n)
 run_broke gained old new plan o ts ts1 ts' hs hs1 hs' h t n few within kept there brings stay
     ordered r =
@@ -180,14 +180,14 @@ run_broke gained old new plan o ts ts1 ts' hs hs1 hs' h t n few within kept ther
     let all = ran_all plan o ts ts1 ts' hs hs1 hs' h t (suc k)
     r.x r.x' r.y r.y' kept there brings ordered r.task r.hart r.tasks r.harts r.made.stepped in
     let p = state_on r.y r.x in
-    let told : samples_of_steps (subject_of plan h t o) o.irqs k p
+    let told : samples_of_steps (context_of plan h t o) o.irqs k p
     ≡ samples_of_command plan (view_of ts hs) (Run h t k)
     = sym (ap (λ (q : Option PresentState). samples_of_run q (slice_get plan.tasks t) plan h t k)
-    all.state ∙ ap (λ (q : Option Orders). samples_of_run (Some p) q plan h t k) ordered) in
-    let next_due : due_sample (subject_of plan h t o) (present_after o.irqs (suc k) p)
+    all.state ∙ ap (λ (q : Option TaskPlan). samples_of_run (Some p) q plan h t k) ordered) in
+    let next_due : due_sample (context_of plan h t o) (present_after o.irqs (suc k) p)
     ≡ due_by (slice_get (present_states ts hs) t) (slice_get plan.tasks t) plan h t (suc k)
     = sym (ap (λ (q : Option PresentState). due_by q (slice_get plan.tasks t) plan h t (suc k))
-    all.state ∙ ap (λ (q : Option Orders). due_by (Some p) q plan h t (suc k)) ordered) in
+    all.state ∙ ap (λ (q : Option TaskPlan). due_by (Some p) q plan h t (suc k)) ordered) in
     record {
       allowed = allowed_run plan (view_of ts hs) h t n few within;
       kept = all.kept;
@@ -206,15 +206,15 @@ run_broke gained old new plan o ts ts1 ts' hs hs1 hs' h t n few within kept ther
 
 -- a sample of a task on its hart
 pub record Taken (plan : Plan) (ts : List TaskState) (hs hs' : List HartState) (t : ℕ) (h : ℕ)
-    (o : Orders) (x : TaskState) (y : HartState) : Type 0 where
+    (o : TaskPlan) (x : TaskState) (y : HartState) : Type 0 where
   pub allowed : refusal plan (view_of ts hs) (Sampled t) ≡ None
   pub view : view_of ts hs' ≡ after_command plan (view_of ts hs) (Sampled t)
   pub kept : PlacesAgree ts hs'
   pub others : OthersStay (Sampled t) (places ts) hs hs'
-  pub bytes : spelling plan.layout (sample_of (subject_of plan h t o) (state_on y x))
+  pub bytes : spelling plan.layout (sample_of (context_of plan h t o) (state_on y x))
       ≡ spellings plan.layout (samples_of_command plan (view_of ts hs) (Sampled t))
 
-pub taken_all : (plan : Plan) (o : Orders) (ts : List TaskState) (hs hs' : List HartState) (t h : ℕ)
+pub taken_all : (plan : Plan) (o : TaskPlan) (ts : List TaskState) (hs hs' : List HartState) (t h : ℕ)
     (x : TaskState) (y y' : HartState)
     → PlacesAgree ts hs → t < length plan.tasks → slice_get (places ts) t ≡ Some (Some h) →
     slice_get plan.tasks t ≡ Some o
@@ -242,13 +242,13 @@ taken_all plan o ts hs hs' t h x y y' kept few there ordered at got harts paid =
           (sample_at_place q (slice_get (places ts) t) (slice_get plan.tasks t) plan t)) state
           ∙ ap (λ (q : Option (Option ℕ)). spellings plan.layout
           (sample_at_place (Some (state_on y x)) q (slice_get plan.tasks t) plan t)) there
-          ∙ ap (λ (q : Option Orders). spellings plan.layout
+          ∙ ap (λ (q : Option TaskPlan). spellings plan.layout
           (sample_at_place (Some (state_on y x)) (Some (Some h)) q plan t)) ordered
-          ∙ append-nil (spelling plan.layout (sample_of (subject_of plan h t o) (state_on y x))));
+          ∙ append-nil (spelling plan.layout (sample_of (context_of plan h t o) (state_on y x))));
     }
 
-pub same_subject : (plan : Plan) (h t : ℕ) (layout : LayoutWords) (o : Orders) → layout
-    ≡ plan.layout → subject_of plan h t o
+pub same_subject : (plan : Plan) (h t : ℕ) (layout : LayoutWords) (o : TaskPlan) → layout
+    ≡ plan.layout → context_of plan h t o
     ≡ record { layout = layout; task = t; hart = h; period = o.period }
 same_subject plan h t layout o e = ap
     (λ (l : LayoutWords). record { layout = l; task = t; hart = h; period = o.period }) (sym e)

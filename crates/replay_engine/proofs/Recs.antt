@@ -3,15 +3,15 @@ use Rattle.std.proofs.Common.{◌≡◌, refl, sym, ◌∙◌, ap, ℕ, zero, su
 use Rattle.std.proofs.Common.{◌++◌, arith, append_assoc, append-nil}
 use Rattle.std.specs.Prelude.{slice_get, Option, Some}
 use Rattle.perf_sample.specs.declared.sample.Sample.{Sample}
-use Rattle.replay_engine.specs.declared.sampling.Subject.{Subject}
+use Rattle.replay_engine.specs.declared.sampling.SampleContext.{SampleContext}
 use Rattle.rv_hart.specs.Task.{Irq}
 use Rattle.sched_text.specs.declared.schedule.Command.{Command}
 use Rattle.sched_text.specs.declared.schedule.Command.TheVariants.{Run, Sample as Sampled, Evict}
 use Rattle.sched_text.specs.declared.schedule.Command.TheVariants.{End}
 use Rattle.replay_engine.specs.Tasks.{PresentState}
 use Rattle.replay_engine.specs.Runs.{present_after, samples_of_steps, due_sample}
-use Rattle.replay_engine.specs.declared.plan.Orders.{Orders}
-use Rattle.replay_engine.specs.View.{View, Plan, subject_of, samples_of_run, sample_at_place}
+use Rattle.replay_engine.specs.declared.plan.TaskPlan.{TaskPlan}
+use Rattle.replay_engine.specs.View.{View, Plan, context_of, samples_of_run, sample_at_place}
 use Rattle.replay_engine.specs.View.{samples_of_command}
 use Rattle.replay_engine.specs.Stands.{own_steps, place_after, lone_samples, lone_run_samples}
 use Rattle.replay_engine.specs.Stands.{lone_sample, scheduled_of, scheduled_from, scheduled_samples}
@@ -19,7 +19,7 @@ use Rattle.replay_engine.specs.Stands.{ViewStandsFor, CanPerform}
 use Rattle.replay_engine.proofs.Standing.{advanced_add}
 
 -- a run gives the samples of the lone run
-pub run_is_lone : (s : Subject) (irqs : List Irq) (m n : ℕ) (p : PresentState) →
+pub run_is_lone : (s : SampleContext) (irqs : List Irq) (m n : ℕ) (p : PresentState) →
     samples_of_steps s irqs n (present_after irqs m p) ≡ lone_samples s irqs m n p
 run_is_lone s irqs m zero p = refl
 run_is_lone s irqs m (suc n) p =
@@ -29,7 +29,7 @@ run_is_lone s irqs m (suc n) p =
     (advanced_add irqs m (suc n) p)
 
 -- a run that is cut in two gives the same
-pub cut_run : (s : Subject) (irqs : List Irq) (m n : ℕ) (p : PresentState) →
+pub cut_run : (s : SampleContext) (irqs : List Irq) (m n : ℕ) (p : PresentState) →
     samples_of_steps s irqs (m + n) p
     ≡ samples_of_steps s irqs m p ++ samples_of_steps s irqs n (present_after irqs m p)
 cut_run s irqs m zero p = let none : m + zero ≡ m = omega arith in
@@ -55,10 +55,10 @@ given_is plan first cs v (Run h t n) s a =
     let p = a.0 in let o = a.1 in
     ap (λ (x : Option PresentState). samples_of_run x (slice_get plan.tasks t) plan h t n)
     (s.present_states t p o a.2 a.3)
-    ∙ ap (λ (y : Option Orders). samples_of_run (Some (present_after o.irqs (own_steps cs t) p))
+    ∙ ap (λ (y : Option TaskPlan). samples_of_run (Some (present_after o.irqs (own_steps cs t) p))
     y plan h t n) a.3
-    ∙ run_is_lone (subject_of plan h t o) o.irqs (own_steps cs t) n p
-    ∙ ap (λ (y : Option Orders). lone_run_samples (Some p) y plan h t (own_steps cs t) n) (sym a.3)
+    ∙ run_is_lone (context_of plan h t o) o.irqs (own_steps cs t) n p
+    ∙ ap (λ (y : Option TaskPlan). lone_run_samples (Some p) y plan h t (own_steps cs t) n) (sym a.3)
     ∙ ap (λ (x : Option PresentState). lone_run_samples x (slice_get plan.tasks t) plan h t
     (own_steps cs t) n) (sym a.2)
 given_is plan first cs v (Sampled t) s a =
@@ -68,9 +68,9 @@ given_is plan first cs v (Sampled t) s a =
     (slice_get plan.tasks t) plan t) (s.present_states t p o a.2 a.3)
     ∙ ap (λ (x : Option (Option ℕ)). sample_at_place (Some q) x (slice_get plan.tasks t) plan t)
     (s.places t p a.2 ∙ ap Some a.6)
-    ∙ ap (λ (y : Option Orders). sample_at_place (Some q) (Some (Some a.4)) y plan t) a.3
+    ∙ ap (λ (y : Option TaskPlan). sample_at_place (Some q) (Some (Some a.4)) y plan t) a.3
     ∙ ap (λ (y : Option ℕ). lone_sample (Some p) (Some o) y plan t (own_steps cs t)) (sym a.6)
-    ∙ ap (λ (y : Option Orders). lone_sample (Some p) y (place_after cs t) plan t (own_steps cs t))
+    ∙ ap (λ (y : Option TaskPlan). lone_sample (Some p) y (place_after cs t) plan t (own_steps cs t))
     (sym a.3)
     ∙ ap (λ (x : Option PresentState). lone_sample x (slice_get plan.tasks t) (place_after cs t)
     plan t (own_steps cs t)) (sym a.2)

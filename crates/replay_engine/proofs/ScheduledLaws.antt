@@ -24,8 +24,8 @@ use Rattle.sched_text.specs.declared.schedule.Command.TheVariants.{End}
 use Rattle.sched_text.specs.declared.schedule.Header.{Header}
 use Rattle.sched_text.specs.declared.schedule.IrqLine.{IrqLine}
 use Rattle.sched_text.specs.declared.schedule.TaskLine.{TaskLine}
-use Rattle.replay_engine.specs.declared.plan.Orders.{Orders}
-use Rattle.replay_engine.specs.declared.sampling.Subject.{Subject}
+use Rattle.replay_engine.specs.declared.plan.TaskPlan.{TaskPlan}
+use Rattle.replay_engine.specs.declared.sampling.SampleContext.{SampleContext}
 use Rattle.task_switch.specs.Costs.{save_cost, restore_cost}
 use Rattle.replay_engine.specs.HartsAt.{IsAt}
 use Rattle.replay_engine.specs.Runs.{due_sample, is_due, present_after, sampling_costs, due_cost}
@@ -42,10 +42,10 @@ use Rattle.replay_engine.specs.Stands.{leaving, bringing}
 use Rattle.replay_engine.specs.Start.{first_present, lone_present, irqs_of, plan_of, sample_layout}
 use Rattle.replay_engine.specs.Start.{lone_sample_of, tasks_of_lines}
 use Rattle.replay_engine.specs.Tasks.{PresentState}
-use Rattle.replay_engine.specs.View.{is_at, subject_of}
+use Rattle.replay_engine.specs.View.{is_at, context_of}
 use Rattle.replay_engine.specs.Visible.{GivesAt}
 use Rattle.replay_engine.proofs.Items.{get_map}
-use Rattle.replay_engine.proofs.LineLaws.{order_of, orders_at, tasks_at, headers_give_sound_tasks}
+use Rattle.replay_engine.proofs.LineLaws.{task_plan_of, task_plans_at, tasks_at, headers_give_sound_tasks}
 use Rattle.replay_engine.proofs.LoneRuns.{lone_is}
 use Rattle.replay_engine.proofs.Standing.{advanced_add}
 
@@ -65,12 +65,12 @@ got_first h images t line image at there =
     get_map first_present (tasks_of_lines 0 h.tasks images h.irqs) t (lone_task h t line image)
     (got_task h images t line image at there)
 
-got_orders : (h : Header) (t : ℕ) (line : TaskLine) → slice_get h.tasks t ≡ Some line →
-    slice_get (plan_of h).tasks t ≡ Some (order_of line (irqs_of t h.irqs))
-got_orders h t line at =
+got_task_plan : (h : Header) (t : ℕ) (line : TaskLine) → slice_get h.tasks t ≡ Some line →
+    slice_get (plan_of h).tasks t ≡ Some (task_plan_of line (irqs_of t h.irqs))
+got_task_plan h t line at =
     let number : 0 + t ≡ t = omega arith in
-    orders_at 0 h.tasks h.irqs t line at
-    ∙ ap (λ (k : ℕ). Some (order_of line (irqs_of k h.irqs))) number
+    task_plans_at 0 h.tasks h.irqs t line at
+    ∙ ap (λ (k : ℕ). Some (task_plan_of line (irqs_of k h.irqs))) number
 
 -- without one of them there is no task
 no_line : (u : ℕ) (ls : List TaskLine) (is : List (List ℕ)) (irqs : List IrqLine) (t : ℕ) →
@@ -120,7 +120,7 @@ mapped f true k = refl
 mapped f false k = refl
 
 -- the samples of a lone run above a count are those at the multiples of the period
-counted : (s : Subject) (task : Task) (m n : ℕ) →
+counted : (s : SampleContext) (task : Task) (m n : ℕ) →
     lone_samples s task.irqs m n (first_present task)
     ≡ map (λ k. sample_of s (lone_present task k))
     (filter (is_due s.period) (range_with_len (m + 1) n))
@@ -146,12 +146,12 @@ run_is : (h : Header) (images : List (List ℕ)) (g t own n : ℕ) (a : Option T
 run_is h images g t own n (Some line) (Some image) at there =
     let plan = plan_of h in
     let task = lone_task h t line image in
-    let o = order_of line (irqs_of t h.irqs) in
+    let o = task_plan_of line (irqs_of t h.irqs) in
     ap (λ (p : Option PresentState). lone_run_samples p (slice_get plan.tasks t) plan g t own n)
     (got_first h images t line image at there)
-    ∙ ap (λ (x : Option Orders). lone_run_samples (Some (first_present task)) x plan g t own n)
-    (got_orders h t line at)
-    ∙ counted (subject_of plan g t o) task own n
+    ∙ ap (λ (x : Option TaskPlan). lone_run_samples (Some (first_present task)) x plan g t own n)
+    (got_task_plan h t line at)
+    ∙ counted (context_of plan g t o) task own n
 run_is h images g t own n (Some line) None at there = ap (λ (p : Option PresentState).
     lone_run_samples p (slice_get (plan_of h).tasks t) (plan_of h) g t own n)
     (no_first_image h images t there)
@@ -161,12 +161,12 @@ run_is h images g t own n None b at there = ap (λ (p : Option PresentState).
 
 one_is : (h : Header) (line : TaskLine) (image : List ℕ) (t own : ℕ) (q : Option ℕ) →
     lone_sample (Some (first_present (lone_task h t line image)))
-    (Some (order_of line (irqs_of t h.irqs))) q (plan_of h) t own
+    (Some (task_plan_of line (irqs_of t h.irqs))) q (plan_of h) t own
     ≡ sample_where q (λ (g : ℕ). lone_sample_of h line image t own g)
 one_is h line image t own None = refl
 one_is h line image t own (Some g) =
     ap (λ (p : PresentState). sample_of
-    (subject_of (plan_of h) g t (order_of line (irqs_of t h.irqs))) p ∷ [])
+    (context_of (plan_of h) g t (task_plan_of line (irqs_of t h.irqs))) p ∷ [])
     (lone_is (lone_task h t line image) own)
 
 sample_is : (h : Header) (images : List (List ℕ)) (t own : ℕ) (q : Option ℕ) (a : Option TaskLine)
@@ -178,8 +178,8 @@ sample_is h images t own q (Some line) (Some image) at there =
     let plan = plan_of h in
     ap (λ (p : Option PresentState). lone_sample p (slice_get plan.tasks t) q plan t own)
     (got_first h images t line image at there)
-    ∙ ap (λ (x : Option Orders). lone_sample (Some (first_present (lone_task h t line image))) x q
-    plan t own) (got_orders h t line at)
+    ∙ ap (λ (x : Option TaskPlan). lone_sample (Some (first_present (lone_task h t line image))) x q
+    plan t own) (got_task_plan h t line at)
     ∙ one_is h line image t own q
 sample_is h images t own q (Some line) None at there = ap (λ (p : Option PresentState).
     lone_sample p (slice_get (plan_of h).tasks t) q (plan_of h) t own)
@@ -219,8 +219,8 @@ depth_by h images t own (Some line) (Some image) at there =
     let task = lone_task h t line image in
     ap (λ (p : Option PresentState). task_depth_by p (slice_get (plan_of h).tasks t) own)
     (got_first h images t line image at there)
-    ∙ ap (λ (x : Option Orders). task_depth_by (Some (first_present task)) x own)
-    (got_orders h t line at)
+    ∙ ap (λ (x : Option TaskPlan). task_depth_by (Some (first_present task)) x own)
+    (got_task_plan h t line at)
     ∙ ap (λ (q : PresentState). entries_of q.state.unit.stack.depth) (lone_is task own)
 depth_by h images t own (Some line) None at there =
     ap (λ (p : Option PresentState). task_depth_by p (slice_get (plan_of h).tasks t) own)
@@ -251,7 +251,7 @@ one_cost f true k = omega (arith, sum_by-cons f k [])
 one_cost f false k = refl
 
 -- the accesses of the samples of a run are those of the counts that are due
-costs_counted : (s : Subject) (task : Task) (m n : ℕ) →
+costs_counted : (s : SampleContext) (task : Task) (m n : ℕ) →
     sampling_costs s task.irqs n (present_after task.irqs m (first_present task))
     ≡ sum_by (λ k. sampling_cost s.layout (depth_in (lone_run task k)))
     (filter (is_due s.period) (range_with_len (m + 1) n))
@@ -281,9 +281,9 @@ costs_by h images g t own n (Some line) (Some image) at there =
     let task = lone_task h t line image in
     ap (λ (p : Option PresentState). run_costs p (slice_get plan.tasks t) plan g t own n)
     (got_first h images t line image at there)
-    ∙ ap (λ (x : Option Orders). run_costs (Some (first_present task)) x plan g t own n)
-    (got_orders h t line at)
-    ∙ costs_counted (subject_of plan g t (order_of line (irqs_of t h.irqs))) task own n
+    ∙ ap (λ (x : Option TaskPlan). run_costs (Some (first_present task)) x plan g t own n)
+    (got_task_plan h t line at)
+    ∙ costs_counted (context_of plan g t (task_plan_of line (irqs_of t h.irqs))) task own n
 costs_by h images g t own n (Some line) None at there = ap (λ (p : Option PresentState).
     run_costs p (slice_get (plan_of h).tasks t) (plan_of h) g t own n)
     (no_first_image h images t there)
@@ -329,13 +329,13 @@ hart_is_lone h images cs k y at = record {
   accesses = at.accesses ∙ accesses_are h images [] cs k;
   core = λ t line image here is there.
       let task = lone_task h t line image in
-      (at.runs t (first_present task) (order_of line (irqs_of t h.irqs)) here
-      (got_first h images t line image is there) (got_orders h t line is)).core
+      (at.runs t (first_present task) (task_plan_of line (irqs_of t h.irqs)) here
+      (got_first h images t line image is there) (got_task_plan h t line is)).core
       ∙ ap (λ (q : PresentState). q.state.core) (lone_is task (own_steps cs t));
   unit = λ t line image here is there.
       let task = lone_task h t line image in
-      (at.runs t (first_present task) (order_of line (irqs_of t h.irqs)) here
-      (got_first h images t line image is there) (got_orders h t line is)).unit
+      (at.runs t (first_present task) (task_plan_of line (irqs_of t h.irqs)) here
+      (got_first h images t line image is there) (got_task_plan h t line is)).unit
       ∙ ap (λ (q : PresentState). q.state.unit) (lone_is task (own_steps cs t));
   unnamed = at.unnamed;
 }

@@ -15,8 +15,8 @@ use Rattle.sched_text.specs.declared.schedule.Command.TheVariants.{Run, Sample a
 use Rattle.sched_text.specs.declared.schedule.Command.TheVariants.{End}
 use Rattle.replay_engine.specs.Tasks.{PresentState, AreInverse}
 use Rattle.replay_engine.specs.Runs.{present_after, next_present, sampling_costs}
-use Rattle.replay_engine.specs.declared.plan.Orders.{Orders}
-use Rattle.replay_engine.specs.View.{View, Plan, subject_of, after_leaving_by}
+use Rattle.replay_engine.specs.declared.plan.TaskPlan.{TaskPlan}
+use Rattle.replay_engine.specs.View.{View, Plan, context_of, after_leaving_by}
 use Rattle.replay_engine.specs.View.{after_freeing_by, after_freeing, is_at}
 use Rattle.replay_engine.specs.View.{after_bringing, after_running_by}
 use Rattle.replay_engine.specs.View.{after_sampling_by, after_command}
@@ -74,7 +74,7 @@ advanced_add irqs m (suc n) p =
 
 known_of : (plan : Plan) (first : List PresentState) (cs : List Command) (v : View) (t : ℕ)
     (q : Option ℕ) → ViewStandsFor plan first cs v → slice_get v.places t ≡ Some q
-    → (p : PresentState) × (o : Orders) × (slice_get first t ≡ Some p)
+    → (p : PresentState) × (o : TaskPlan) × (slice_get first t ≡ Some p)
     × (slice_get plan.tasks t ≡ Some o)
 known_of plan first cs v t q s e =
     let within = slice_get_within v.places t q e in
@@ -84,7 +84,7 @@ known_of plan first cs v t q s e =
 
 -- what is known of a task and a hart where the engine stands for the commands
 before_it : (plan : Plan) (first : List PresentState) (cs : List Command) (v : View) (t h : ℕ)
-    (p : PresentState) (o : Orders) → ViewStandsFor plan first cs v
+    (p : PresentState) (o : TaskPlan) → ViewStandsFor plan first cs v
     → slice_get first t ≡ Some p → slice_get plan.tasks t ≡ Some o → h < 16 →
     Before t h (place_after cs t) (resident_after cs h) (task_depth plan first cs) v
 before_it plan first cs v t h p o s at ordered within = record {
@@ -92,7 +92,7 @@ before_it plan first cs v t h p o s at ordered within = record {
   p = present_after o.irqs (own_steps cs t) p;
   state = s.present_states t p o at ordered;
   deep = sym (ap (λ (x : Option PresentState). task_depth_by x (slice_get plan.tasks t)
-      (own_steps cs t)) at ∙ ap (λ (y : Option Orders). task_depth_by (Some p) y (own_steps cs t))
+      (own_steps cs t)) at ∙ ap (λ (y : Option TaskPlan). task_depth_by (Some p) y (own_steps cs t))
       ordered);
   place = s.places t p at;
   resident = s.residents h within;
@@ -104,17 +104,17 @@ before_it plan first cs v t h p o s at ordered within = record {
         s.present_states w known.0 known.1 known.2 known.3,
         sym (ap (λ (x : Option PresentState). task_depth_by x (slice_get plan.tasks w)
             (own_steps cs w)) known.2 ∙ ap
-            (λ (y : Option Orders). task_depth_by (Some known.0) y (own_steps cs w)) known.3),
+            (λ (y : Option TaskPlan). task_depth_by (Some known.0) y (own_steps cs w)) known.3),
       );
 }
 
 -- run: the present states
 run_presents : (plan : Plan) (first xs : List PresentState) (cs : List Command) (t h n : ℕ)
-    (p : PresentState) (o : Orders)
-    → ((u : ℕ) (q : PresentState) (r : Orders) → slice_get first u ≡ Some q → slice_get plan.tasks u
+    (p : PresentState) (o : TaskPlan)
+    → ((u : ℕ) (q : PresentState) (r : TaskPlan) → slice_get first u ≡ Some q → slice_get plan.tasks u
     ≡ Some r → slice_get xs u ≡ Some (present_after r.irqs (own_steps cs u) q))
     → slice_get first t ≡ Some p → slice_get plan.tasks t ≡ Some o
-    → (u : ℕ) (q : PresentState) (r : Orders) → slice_get first u ≡ Some q → slice_get plan.tasks u
+    → (u : ℕ) (q : PresentState) (r : TaskPlan) → slice_get first u ≡ Some q → slice_get plan.tasks u
     ≡ Some r
     → slice_get (slice_set xs t (present_after o.irqs n (present_after o.irqs (own_steps cs t) p)))
     u ≡ Some (present_after r.irqs (own_steps (cs ++ Run h t n ∷ []) u) q)
@@ -135,7 +135,7 @@ run_presents plan first xs cs t h n p o known at ordered u q r is its =
           ∙ ap (λ (k : ℕ). present_after o.irqs k p) more
           ∙ ap (λ (x : PresentState). present_after o.irqs (own_steps (cs ++ Run h t n ∷ []) u) x)
           mine
-          ∙ ap (λ (y : Orders). present_after y.irqs (own_steps (cs ++ Run h t n ∷ []) u) q)
+          ∙ ap (λ (y : TaskPlan). present_after y.irqs (own_steps (cs ++ Run h t n ∷ []) u) q)
           orders))
       | inr other ↦
           let apart : u ≡ t → ⊥ = λ e. grind (arith, other, e) in
@@ -153,7 +153,7 @@ flip i j = elim (cases_Bool (nat_eq i j)) [
 ]
 
 stand_run_from : (plan : Plan) (first : List PresentState) (cs : List Command) (v w : View)
-    (h t n : ℕ) (p : PresentState) (o : Orders)
+    (h t n : ℕ) (p : PresentState) (o : TaskPlan)
     → ViewStandsFor plan first cs v → slice_get first t ≡ Some p → slice_get plan.tasks t ≡ Some o →
     h < 16
     → After t h (place_after cs t) (resident_after cs h) (task_depth plan first cs) v w
@@ -179,13 +179,13 @@ stand_run_from plan first cs v w h t n p o s at ordered within b i =
           ∙ ap (λ (x : Bool). Some (steps_on cs k + cond x n 0)) (flip k h)
           ∙ ap Some (sym (steps_more cs c k));
       accesses = λ k few.
-          let paid = sampling_costs (subject_of plan h t o) o.irqs n
+          let paid = sampling_costs (context_of plan h t o) o.irqs n
           (present_after o.irqs (own_steps cs t) p) in
           let is : run_costs (slice_get first t) (slice_get plan.tasks t) plan h t (own_steps cs t)
           n ≡ paid
           = ap (λ (x : Option PresentState). run_costs x (slice_get plan.tasks t) plan h t
           (own_steps cs t) n) at ∙ ap
-          (λ (y : Option Orders). run_costs (Some p) y plan h t (own_steps cs t) n) ordered in
+          (λ (y : Option TaskPlan). run_costs (Some p) y plan h t (own_steps cs t) n) ordered in
           let moved = bringing (task_depth plan first cs) (place_after cs t) (resident_after cs h)
           t h k in
           get_add w.accesses h k (accesses_on plan first cs k + moved) paid
@@ -210,7 +210,7 @@ stand_run plan first cs v h t n i s a =
     ∙ s.present_states t a.0 a.1 a.2 a.3 in
     subst (ViewStandsFor plan first (cs ++ Run h t n ∷ []))
     (sym (ap (λ (x : Option PresentState). after_running_by x (slice_get plan.tasks t) plan h t n w)
-    there ∙ ap (λ (y : Option Orders). after_running_by
+    there ∙ ap (λ (y : Option TaskPlan). after_running_by
     (Some (present_after a.1.irqs (own_steps cs t) a.0)) y plan h t n w) a.3))
     (stand_run_from plan first cs v w h t n a.0 a.1 s a.2 a.3 a.4 b i)
 
@@ -235,7 +235,7 @@ stand_sampled plan first cs v t s a =
     let place = s.places t a.0 a.2 ∙ ap Some a.6 in
     let deep : task_depth plan first cs t ≡ depth_at p
     = ap (λ (x : Option PresentState). task_depth_by x (slice_get plan.tasks t) (own_steps cs t))
-    a.2 ∙ ap (λ (y : Option Orders). task_depth_by (Some a.0) y (own_steps cs t)) a.3 in
+    a.2 ∙ ap (λ (y : Option TaskPlan). task_depth_by (Some a.0) y (own_steps cs t)) a.3 in
     let goal_ : ViewStandsFor plan first (cs ++ c ∷ [])
     (after_sampling_by (Some p) (Some (Some h)) plan v) = record {
       inverse = s.inverse;
@@ -293,7 +293,7 @@ stand_evict plan first cs v h i s a =
     let state = s.present_states u known.0 known.1 known.2 known.3 in
     let deep : task_depth plan first cs u ≡ depth_at p
     = ap (λ (x : Option PresentState). task_depth_by x (slice_get plan.tasks u) (own_steps cs u))
-    known.2 ∙ ap (λ (y : Option Orders). task_depth_by (Some known.0) y (own_steps cs u))
+    known.2 ∙ ap (λ (y : Option TaskPlan). task_depth_by (Some known.0) y (own_steps cs u))
     known.3 in
     let made : after_freeing h v ≡ after_leaving_by (Some p) u h v =
     ap (λ (x : Option (Option ℕ)). after_freeing_by x h v) on

@@ -15,14 +15,14 @@ use Rattle.sched_text.specs.declared.schedule.TaskLine.{TaskLine}
 use Rattle.sched_text.specs.Header.{IsHeader}
 use Rattle.sched_text.specs.Rows.{IsTask}
 use Rattle.sched_text.specs.Irqs.{lines_of_task}
-use Rattle.replay_engine.specs.declared.plan.Orders.{Orders}
+use Rattle.replay_engine.specs.declared.plan.TaskPlan.{TaskPlan}
 use Rattle.replay_engine.specs.Irqs.{IsIrq, CanFollow, AreIrqs}
-use Rattle.replay_engine.specs.Start.{interrupt_of, irqs_of, orders_from}
+use Rattle.replay_engine.specs.Start.{interrupt_of, irqs_of, task_plans_from}
 use Rattle.replay_engine.specs.Tasks.{PresentState, present_states}
 use Rattle.replay_engine.specs.Tasks.{places, PlacesAgree, state_off}
 use Rattle.replay_engine.specs.View.{Plan, view_of, steps_of, accesses_of}
 use Rattle.replay_engine.specs.Stands.{ViewStandsFor, StandsFor}
-use Rattle.replay_engine.specs.Engine.{IsEngine, HasWholeArea, IsOrders, IsEarlyEnough, memory_size}
+use Rattle.replay_engine.specs.Engine.{IsEngine, HasWholeArea, IsTaskPlan, IsEarlyEnough, memory_size}
 use Rattle.replay_engine.specs.Engine.{memory_asked}
 use Rattle.replay_engine.proofs.FirstLaws.{length-fresh_tasks}
 use Rattle.replay_engine.proofs.Items.{some_of}
@@ -82,40 +82,40 @@ irqs_take t i lines x b within is same =
     ∙ irqs_append t (take i lines) (x ∷ [])
     ∙ ap (λ (b : Bool). irqs_of t (take i lines) ++ map interrupt_of (cond b (x ∷ []) [])) same
 
-pub orders_more : (t : ℕ) (ls : List TaskLine) (l : TaskLine) (irqs : List IrqLine)
-    → orders_from t (ls ++ l ∷ []) irqs
-    ≡ orders_from t ls irqs ++ record {
+pub task_plans_more : (t : ℕ) (ls : List TaskLine) (l : TaskLine) (irqs : List IrqLine)
+    → task_plans_from t (ls ++ l ∷ []) irqs
+    ≡ task_plans_from t ls irqs ++ record {
       memory = l.mem;
       period = l.period;
       irqs =
           irqs_of (t + length ls) irqs;
     } ∷ []
-orders_more t [] l irqs = ap (λ (u : ℕ). record {
+task_plans_more t [] l irqs = ap (λ (u : ℕ). record {
   memory = l.mem;
   period = l.period;
   irqs =
       irqs_of u irqs;
 } ∷ []) (omega arith)
-orders_more t (x ∷ xs) l irqs =
+task_plans_more t (x ∷ xs) l irqs =
     let number : suc t + length xs ≡ t + suc (length xs) = omega arith in
-    ap (λ (os : List Orders). record {
+    ap (λ (os : List TaskPlan). record {
       memory = x.mem;
       period = x.period;
       irqs =
           irqs_of t irqs;
     } ∷ os)
-    (orders_more (suc t) xs l irqs ∙ ap
-    (λ (u : ℕ). orders_from (suc t) xs irqs ++ record {
+    (task_plans_more (suc t) xs l irqs ∙ ap
+    (λ (u : ℕ). task_plans_from (suc t) xs irqs ++ record {
       memory = l.mem;
       period =
           l.period;
       irqs = irqs_of u irqs;
     } ∷ []) number)
 
-pub length_orders : (t : ℕ) (ls : List TaskLine) (irqs : List IrqLine) →
-    length (orders_from t ls irqs) ≡ length ls
-length_orders t [] irqs = refl
-length_orders t (l ∷ ls) irqs = ap suc (length_orders (suc t) ls irqs)
+pub length_task_plans : (t : ℕ) (ls : List TaskLine) (irqs : List IrqLine) →
+    length (task_plans_from t ls irqs) ≡ length ls
+length_task_plans t [] irqs = refl
+length_task_plans t (l ∷ ls) irqs = ap suc (length_task_plans (suc t) ls irqs)
 
 pub as_many : (ls : List TaskLine) (ms : List (List ℕ)) → AreMemories ls ms → length ms ≡ length ls
 as_many ls ms are = sym (length_map size_of ms) ∙ ap length are ∙ length_map mem_of ls
@@ -206,7 +206,7 @@ started_places plan ls ms size =
 -- each memory has the size that its line asks for
 memories_asked : (t : ℕ) (ls : List TaskLine) (ms : List (List ℕ)) (irqs : List IrqLine) →
     map size_of ms ≡ map mem_of ls
-    → map memory_size (fresh_tasks ls ms) ≡ map memory_asked (orders_from t ls irqs)
+    → map memory_size (fresh_tasks ls ms) ≡ map memory_asked (task_plans_from t ls irqs)
 memories_asked t [] ms irqs e = refl
 memories_asked t (l ∷ ls) [] irqs e = absurd (omega (arith, ap length e))
 memories_asked t (l ∷ ls) (m ∷ ms) irqs e =
@@ -216,14 +216,14 @@ memories_asked t (l ∷ ls) (m ∷ ms) irqs e =
     ∙ ap (λ (ns : List ℕ). l.mem ∷ ns) (memories_asked (suc t) ls ms irqs rest)
 
 -- the orders of lines in their ranges
-orders_good : (u : ℕ) (ls : List TaskLine) (irqs : List IrqLine) →
+task_plans_good : (u : ℕ) (ls : List TaskLine) (irqs : List IrqLine) →
     ((t : ℕ) → AreIrqs (irqs_of t irqs)) → ((t : ℕ) → length (irqs_of t irqs) ≤ 1024) →
     ((t : ℕ) → All IsEarlyEnough (irqs_of t irqs)) → All IsTask ls →
-    All IsOrders (orders_from u ls irqs)
-orders_good u [] irqs are few early each = All-nil IsOrders
-orders_good u (l ∷ ls) irqs are few early each =
+    All IsTaskPlan (task_plans_from u ls irqs)
+task_plans_good u [] irqs are few early each = All-nil IsTaskPlan
+task_plans_good u (l ∷ ls) irqs are few early each =
     let is = All-head IsTask l ls each in
-    All-cons IsOrders _ (orders_from (suc u) ls irqs)
+    All-cons IsTaskPlan _ (task_plans_from (suc u) ls irqs)
     (record {
       least = is.some;
       most = is.most;
@@ -233,7 +233,7 @@ orders_good u (l ∷ ls) irqs are few early each =
       few = few u;
       steps = early u;
     })
-    (orders_good (suc u) ls irqs are few early (All-tail IsTask l ls each))
+    (task_plans_good (suc u) ls irqs are few early (All-tail IsTask l ls each))
 
 pub started_facts : (h : Header) (ms : List (List ℕ)) → IsHeader h → AreMemories h.tasks ms →
     All HasWholeArea (fresh_tasks h.tasks ms) → IsEngine (fresh_engine h ms)
@@ -247,12 +247,12 @@ started_facts h ms is are areas =
       layout = is.layout;
       branch = is.branch;
       orders =
-          orders_good 0 ls h.irqs (header_irqs (length ls) h.irqs is.irqs is.order)
+          task_plans_good 0 ls h.irqs (header_irqs (length ls) h.irqs is.irqs is.order)
           (header_irqs_few h.irqs is.order) (header_irqs_early (length ls) h.irqs is.irqs) is.tasks;
       one_task = omega (arith, is.one_task, same);
       few = omega (arith, is.few, same);
       areas = areas;
-      size = length_orders 0 ls h.irqs ∙ sym same;
+      size = length_task_plans 0 ls h.irqs ∙ sym same;
       memories = memories_asked 0 ls ms h.irqs are;
       below = λ t h e. absurd (not_there t h e);
       apart = λ t u h e f. absurd (not_there t h e);

@@ -12,7 +12,7 @@ use Rattle.perf_sample.specs.Layout.{LayoutWords, has}
 use Rattle.replay_engine.specs.Samples.{hw_index_cost}
 use Rattle.replay_engine.specs.Tasks.{TaskState, PresentState, state_on}
 use Rattle.replay_engine.specs.Runs.{next_present, present_after, is_due, due_cost, sampling_costs}
-use Rattle.replay_engine.specs.declared.sampling.Subject.{Subject}
+use Rattle.replay_engine.specs.declared.sampling.SampleContext.{SampleContext}
 use Rattle.replay_engine.specs.Samples.{sample_cost}
 use Rattle.replay_engine.specs.Parts.{StepsMade}
 
@@ -36,17 +36,17 @@ hw_most layout = elim (has layout place.HwIndex) as (λ b. (if b then 2 else 0) 
 pub sample_most : (layout : LayoutWords) (p : PresentState) → sample_cost layout p ≤ 1029
 sample_most layout p = omega (arith, hw_most layout, most_entries p.state.unit.stack.depth)
 
-pub due_most : (s : Subject) (p : PresentState) → due_cost s p ≤ 1029
+pub due_most : (s : SampleContext) (p : PresentState) → due_cost s p ≤ 1029
 due_most s p = cond_most (is_due s.period p.steps) (sample_cost s.layout p) 1029
     (sample_most s.layout p)
 
-pub costs_most : (s : Subject) (irqs : List Irq) (n : ℕ) (p : PresentState) →
+pub costs_most : (s : SampleContext) (irqs : List Irq) (n : ℕ) (p : PresentState) →
     sampling_costs s irqs n p ≤ 1029 * n
 costs_most s irqs zero p = omega arith
 costs_most s irqs (suc n) p =
     omega (arith, costs_most s irqs n p, due_most s (present_after irqs (suc n) p))
 
-pub step_more : (y y1 y2 y3 : HartState) (x x1 x2 : TaskState) (s : Subject) (irqs : List Irq)
+pub step_more : (y y1 y2 y3 : HartState) (x x1 x2 : TaskState) (s : SampleContext) (irqs : List Irq)
     (n : ℕ)
     → StepsMade y y1 x x1 s irqs n
     → state_on y2 x2 ≡ next_present irqs (state_on y1 x1)

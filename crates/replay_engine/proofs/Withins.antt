@@ -9,12 +9,12 @@ use Rattle.rv_hart.specs.Task.{Irq}
 use Rattle.sched_text.specs.declared.schedule.Command.{Command}
 use Rattle.sched_text.specs.declared.schedule.Command.TheVariants.{Run, Sample as Sampled, Evict}
 use Rattle.sched_text.specs.declared.schedule.Command.TheVariants.{End}
-use Rattle.replay_engine.specs.declared.plan.Orders.{Orders}
+use Rattle.replay_engine.specs.declared.plan.TaskPlan.{TaskPlan}
 use Rattle.sched_text.specs.Rows.{IsCommand}
 use Rattle.replay_engine.specs.Tasks.{PresentState}
 use Rattle.replay_engine.specs.Samples.{sample_cost}
 use Rattle.replay_engine.specs.Runs.{present_after}
-use Rattle.replay_engine.specs.View.{View, Plan, subject_of, after_leaving_by}
+use Rattle.replay_engine.specs.View.{View, Plan, context_of, after_leaving_by}
 use Rattle.replay_engine.specs.View.{after_arriving_by, after_arriving, after_freeing_by}
 use Rattle.replay_engine.specs.View.{after_freeing, after_parting_by, after_parting, is_on}
 use Rattle.replay_engine.specs.View.{after_bringing, after_running_by, after_running}
@@ -103,13 +103,13 @@ set_counts xs t n m p q at all few u r e = elim (either u t) [
   | inr other ↦ omega (arith, all u r (sym (get_set_other xs t u q other) ∙ e))
 ]
 
-ran_within : (p : Option PresentState) (o : Option Orders) (plan : Plan) (h t k a s n : ℕ)
+ran_within : (p : Option PresentState) (o : Option TaskPlan) (plan : Plan) (h t k a s n : ℕ)
     (v : View) → slice_get v.present_states t ≡ p → k ≤ 1000000000 → CountsWithin a s n v
     → CountsWithin (a + 1029000000000) (s + 1000000000) (n + 1000000000)
     (after_running_by p o plan h t k v)
 ran_within (Some p) (Some o) plan h t k a s n v at few w = record {
   few_accesses = add_within v.accesses h _ a 1029000000000 w.few_accesses
-      (omega (arith, costs_most (subject_of plan h t o) o.irqs k p, few));
+      (omega (arith, costs_most (context_of plan h t o) o.irqs k p, few));
   few_steps = add_within v.steps h k s 1000000000 w.few_steps few;
   few_counts = set_counts v.present_states t n 1000000000 p (present_after o.irqs k p)
       at w.few_counts (omega (arith, advanced_steps o.irqs k p, w.few_counts t p at, few));

@@ -6,14 +6,14 @@ use Rattle.rv_hart.specs.Task.{Task}
 use Rattle.sched_text.specs.Header.{IsHeader}
 use Rattle.sched_text.specs.declared.schedule.Header.{Header}
 use Rattle.sched_text.specs.declared.schedule.TaskLine.{TaskLine}
-use Rattle.replay_engine.specs.declared.plan.Orders.{Orders}
+use Rattle.replay_engine.specs.declared.plan.TaskPlan.{TaskPlan}
 use Rattle.replay_engine.specs.Start.{irqs_of, plan_of, task_of_line}
 use Rattle.replay_engine.specs.Start.{tasks_of_lines}
 use Rattle.replay_engine.specs.View.{Plan}
 use Rattle.replay_engine.specs.Visible.{IsPlanOf}
 
--- the orders of a task line: its memory, its period, and the irq lines that have its number
-pub record AreOrdersOf (h : Header) (t : ℕ) (line : TaskLine) (o : Orders) : Type 0 where
+-- the plan of a task line: its memory, its period, and the irq lines that have its number
+pub record IsTaskPlanOf (h : Header) (t : ℕ) (line : TaskLine) (o : TaskPlan) : Type 0 where
   pub memory : o.memory ≡ line.mem
   pub period : o.period ≡ line.period
   pub irqs : o.irqs ≡ irqs_of t h.irqs
@@ -24,8 +24,8 @@ pub record SaysHeader (h : Header) (plan : Plan) : Type 0 where
   pub layout : plan.layout.sample_type ≡ h.layout
   pub branch : plan.layout.branch ≡ h.branch
   pub as_many : length plan.tasks ≡ length h.tasks
-  pub each : (t : ℕ) (line : TaskLine) (o : Orders) → slice_get h.tasks t ≡ Some line →
-      slice_get plan.tasks t ≡ Some o → AreOrdersOf h t line o
+  pub each : (t : ℕ) (line : TaskLine) (o : TaskPlan) → slice_get h.tasks t ≡ Some line →
+      slice_get plan.tasks t ≡ Some o → IsTaskPlanOf h t line o
 
 abbrev pub PlansSayHeaders : Type 0
 PlansSayHeaders = (h : Header) → SaysHeader h (plan_of h)

@@ -11,5 +11,5 @@ pub record CountsWithin (accesses steps counts : ℕ) (v : View) : Type 0 where
       p.steps ≤ counts
 
 -- so many accesses at most, and steps that leave room for those of a run
-abbrev pub HasRoom : ℕ → View → Type 0
-HasRoom accesses v = CountsWithin accesses (2 ^ 61) (2 ^ 61) v
+abbrev pub CountsHaveRoom : ℕ → View → Type 0
+CountsHaveRoom accesses v = CountsWithin accesses (2 ^ 61) (2 ^ 61) v

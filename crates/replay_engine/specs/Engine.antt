@@ -6,7 +6,7 @@ use Rattle.rv_hart.specs.Task.{Irq}
 use Rattle.sched_text.specs.declared.limits.TheConstants.{MAX_MEMORY, MAX_STEPS, MAX_IRQS}
 use Rattle.sched_text.specs.declared.limits.TheConstants.{MAX_IRQ_STEP}
 use Rattle.task_switch.specs.SaveArea.{IsWhole}
-use Rattle.replay_engine.specs.declared.plan.Orders.{Orders}
+use Rattle.replay_engine.specs.declared.plan.TaskPlan.{TaskPlan}
 use Rattle.replay_engine.specs.Irqs.{AreIrqs}
 use Rattle.replay_engine.specs.Tasks.{TaskState, places}
 use Rattle.replay_engine.specs.View.{Plan}
@@ -20,7 +20,7 @@ pub record EngineState : Type 0 where
 abbrev pub memory_size : TaskState → ℕ
 memory_size x = length x.mem
 
-abbrev pub memory_asked : Orders → ℕ
+abbrev pub memory_asked : TaskPlan → ℕ
 memory_asked o = o.memory
 
 -- each place is one of so many harts
@@ -40,7 +40,7 @@ IsEarlyEnough irq = irq.step ≤ MAX_IRQ_STEP
 
 -- a memory of words and a period in their ranges, and interrupts in their order, of which there are
 -- no more than a task may have, at steps that it may come to
-pub record IsOrders (o : Orders) : Type 0 where
+pub record IsTaskPlan (o : TaskPlan) : Type 0 where
   pub least : 4 ≤ o.memory
   pub most : o.memory ≤ MAX_MEMORY
   pub words : o.memory % 4 ≡ 0
@@ -57,7 +57,7 @@ pub record IsEngine (e : EngineState) : Type 0 where
   pub harts : e.plan.harts ≤ 16
   pub layout : IsLayout e.plan.layout.sample_type
   pub branch : IsBranchWord e.plan.layout.branch
-  pub orders : All IsOrders e.plan.tasks
+  pub orders : All IsTaskPlan e.plan.tasks
   pub one_task : 1 ≤ length e.tasks
   pub few : length e.tasks ≤ 64
   pub areas : All HasWholeArea e.tasks

@@ -4,7 +4,7 @@ use Rattle.std.specs.List.{list_any}
 use Rattle.rv_hart.specs.Hart.{HartState, fresh_hart}
 use Rattle.rv_hart.specs.Task.{Task}
 use Rattle.sched_text.specs.declared.schedule.Command.{Command}
-use Rattle.replay_engine.specs.declared.plan.Orders.{Orders}
+use Rattle.replay_engine.specs.declared.plan.TaskPlan.{TaskPlan}
 use Rattle.replay_engine.specs.Runs.{present_after}
 use Rattle.replay_engine.specs.Stands.{own_steps, resident_after, steps_on, accesses_on, names}
 use Rattle.replay_engine.specs.Stands.{StandsFor}
@@ -25,7 +25,7 @@ pub record IsAt (plan : Plan) (first : List PresentState) (cs : List Command) (h
   pub steps : y.steps ≡ steps_on cs h
   pub resident : y.resident ≡ resident_after cs h
   pub accesses : y.accesses ≡ accesses_on plan first cs h
-  pub runs : (t : ℕ) (p : PresentState) (o : Orders) → resident_after cs h ≡ Some t →
+  pub runs : (t : ℕ) (p : PresentState) (o : TaskPlan) → resident_after cs h ≡ Some t →
       slice_get first t ≡ Some p → slice_get plan.tasks t ≡ Some o →
       HoldsState y (present_after o.irqs (own_steps cs t) p)
   pub unnamed : list_any (names h) cs ≡ false → y ≡ fresh_hart

@@ -9,8 +9,8 @@ use Rattle.sched_text.specs.declared.limits.TheConstants.{MAX_STEPS}
 use Rattle.sched_text.specs.declared.schedule.Command.{Command}
 use Rattle.sched_text.specs.declared.schedule.Header.{Header}
 use Rattle.sched_text.specs.declared.schedule.TaskLine.{TaskLine}
-use Rattle.replay_engine.specs.declared.plan.Orders.{Orders}
-use Rattle.replay_engine.specs.declared.sampling.Subject.{Subject}
+use Rattle.replay_engine.specs.declared.plan.TaskPlan.{TaskPlan}
+use Rattle.replay_engine.specs.declared.sampling.SampleContext.{SampleContext}
 use Rattle.replay_engine.specs.Counts.{CountsWithin}
 use Rattle.replay_engine.specs.Outcome.{refusal}
 use Rattle.replay_engine.specs.Placing.{IsOn}
@@ -39,7 +39,7 @@ PresentsAreSteps = (irqs : List Irq) (n : ℕ) (p : PresentState) →
 
 -- a run that is cut in two gives the states and the samples of the whole
 abbrev pub RunsJoin : Type 0
-RunsJoin = (s : Subject) (irqs : List Irq) (m n : ℕ) (p : PresentState) →
+RunsJoin = (s : SampleContext) (irqs : List Irq) (m n : ℕ) (p : PresentState) →
     (present_after irqs (m + n) p ≡ present_after irqs n (present_after irqs m p))
     × (samples_of_steps s irqs (m + n) p
     ≡ samples_of_steps s irqs m p ++ samples_of_steps s irqs n (present_after irqs m p))
@@ -55,7 +55,7 @@ ResidentsAreTold = (cs : List Command) (t h : ℕ) → (resident_after cs h ≡ 
 -- where engine and harts stand for commands, each task is in its lone run, at its own count
 abbrev pub StatesAreLone : Type 0
 StatesAreLone = (plan : Plan) (tasks : List Task) (cs : List Command) (v : View) (t : ℕ)
-    (task : Task) (o : Orders) →
+    (task : Task) (o : TaskPlan) →
     ViewStandsFor plan (map first_present tasks) cs v → slice_get tasks t ≡ Some task →
     slice_get plan.tasks t ≡ Some o →
     o.irqs ≡ task.irqs → slice_get v.present_states t ≡ Some (lone_present task (own_steps cs t))

@@ -8,14 +8,14 @@ use Rattle.perf_sample.specs.declared.sample.Sample.{Sample}
 use Rattle.sched_text.specs.declared.schedule.Command.{Command}
 use Rattle.sched_text.specs.declared.schedule.Command.TheVariants.{Run, Sample as Sampled, Evict}
 use Rattle.sched_text.specs.declared.schedule.Command.TheVariants.{End}
-use Rattle.replay_engine.specs.declared.plan.Orders.{Orders}
+use Rattle.replay_engine.specs.declared.plan.TaskPlan.{TaskPlan}
 use Rattle.replay_engine.specs.declared.fault.PerformFault.{PerformFault}
 use Rattle.replay_engine.specs.declared.fault.PerformFault.TheVariants.{NoTask, NoHart, NotResident}
 use Rattle.replay_engine.specs.declared.fault.PerformFault.TheVariants.{EmptyHart, Write}
 use Rattle.replay_engine.specs.Tasks.{TaskState, PresentState, PlacesAgree, places}
 use Rattle.replay_engine.specs.Runs.{present_after, due_sample, spellings, IsCut}
-use Rattle.replay_engine.specs.Counts.{HasRoom}
-use Rattle.replay_engine.specs.View.{View, Plan, view_of, subject_of, after_command}
+use Rattle.replay_engine.specs.Counts.{CountsHaveRoom}
+use Rattle.replay_engine.specs.View.{View, Plan, view_of, context_of, after_command}
 use Rattle.replay_engine.specs.View.{samples_of_command}
 
 -- what a command may be performed on: the places that the engine keeps agree with the residents of
@@ -24,7 +24,7 @@ pub record IsReady (plan : Plan) (ts : List TaskState) (hs : List HartState) : T
   pub kept : PlacesAgree ts hs
   pub size : length plan.tasks ≡ length ts
   pub harts : plan.harts ≤ 16
-  pub room : HasRoom (2 ^ 61) (view_of ts hs)
+  pub room : CountsHaveRoom (2 ^ 61) (view_of ts hs)
 
 abbrev pub no_place : Option (Option ℕ) → PerformFault → Option PerformFault
 no_place (Some (Some h)) f = None
@@ -44,8 +44,8 @@ refusal plan v (Evict h) =
 refusal plan v End = None
 
 -- the sample that is due after so many steps of a run
-abbrev pub due_by : Option PresentState → Option Orders → Plan → ℕ → ℕ → ℕ → List Sample
-due_by (Some p) (Some o) plan h t n = due_sample (subject_of plan h t o) (present_after o.irqs n p)
+abbrev pub due_by : Option PresentState → Option TaskPlan → Plan → ℕ → ℕ → ℕ → List Sample
+due_by (Some p) (Some o) plan h t n = due_sample (context_of plan h t o) (present_after o.irqs n p)
 due_by (Some p) None plan h t n = []
 due_by None o plan h t n = []
 

@@ -7,7 +7,7 @@ use Rattle.perf_sample.specs.Layout.{LayoutWords}
 use Rattle.perf_sample.specs.Spelling.{spelling}
 use Rattle.rv_hart.specs.Step.{next}
 use Rattle.rv_hart.specs.Task.{Irq, causes}
-use Rattle.replay_engine.specs.declared.sampling.Subject.{Subject}
+use Rattle.replay_engine.specs.declared.sampling.SampleContext.{SampleContext}
 use Rattle.replay_engine.specs.Samples.{sample_of, sample_cost}
 use Rattle.replay_engine.specs.Tasks.{PresentState}
 
@@ -25,11 +25,11 @@ abbrev pub is_due : ℕ → ℕ → Bool
 is_due period steps = not (nat_eq period 0) && nat_eq (steps % period) 0
 
 -- of a state after a step
-abbrev pub due_sample : Subject → PresentState → List Sample
+abbrev pub due_sample : SampleContext → PresentState → List Sample
 due_sample s p = cond (is_due s.period p.steps) (sample_of s p ∷ []) []
 
 -- the samples of so many steps
-abbrev pub samples_of_steps : Subject → List Irq → ℕ → PresentState → List Sample
+abbrev pub samples_of_steps : SampleContext → List Irq → ℕ → PresentState → List Sample
 samples_of_steps s irqs zero p = []
 samples_of_steps s irqs (suc n) p =
     samples_of_steps s irqs n p ++ due_sample s (present_after irqs (suc n) p)
@@ -39,11 +39,11 @@ abbrev pub spellings : LayoutWords → List Sample → List ℕ
 spellings layout xs = flat_map (spelling layout) xs
 
 -- the accesses of that sample
-abbrev pub due_cost : Subject → PresentState → ℕ
+abbrev pub due_cost : SampleContext → PresentState → ℕ
 due_cost s p = cond (is_due s.period p.steps) (sample_cost s.layout p) 0
 
 -- the accesses of the samples of so many steps
-abbrev pub sampling_costs : Subject → List Irq → ℕ → PresentState → ℕ
+abbrev pub sampling_costs : SampleContext → List Irq → ℕ → PresentState → ℕ
 sampling_costs s irqs zero p = 0
 sampling_costs s irqs (suc n) p =
     sampling_costs s irqs n p + due_cost s (present_after irqs (suc n) p)

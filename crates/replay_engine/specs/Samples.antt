@@ -16,7 +16,7 @@ use Rattle.perf_sample.specs.Flags.{transfer_branch}
 use Rattle.perf_sample.specs.Layout.{LayoutWords, has}
 use Rattle.rv_hart.specs.Processor.{CoreState}
 use Rattle.task_switch.specs.Costs.{read_cost}
-use Rattle.replay_engine.specs.declared.sampling.Subject.{Subject}
+use Rattle.replay_engine.specs.declared.sampling.SampleContext.{SampleContext}
 use Rattle.replay_engine.specs.Tasks.{PresentState}
 
 abbrev pub misc_of : Mode → ℕ
@@ -48,7 +48,7 @@ if_asked layout p value = if has layout p then value else 0
 
 -- the sample of a task, of whom, where and how often the subject says, with this core, this record
 -- buffer and so many steps
-abbrev pub sample_by : Subject → CoreState → Stack → ℕ → Sample
+abbrev pub sample_by : SampleContext → CoreState → Stack → ℕ → Sample
 sample_by s core stack steps = record {
   misc = misc_of core.mode;
   identifier = if_asked s.layout place.Identifier s.task;
@@ -66,7 +66,7 @@ sample_by s core stack steps = record {
 }
 
 -- the sample of a present state
-abbrev pub sample_of : Subject → PresentState → Sample
+abbrev pub sample_of : SampleContext → PresentState → Sample
 sample_of s p = sample_by s p.state.core p.state.unit.stack p.steps
 
 -- the accesses of reading the depth and the status, where the sample says where the youngest entry

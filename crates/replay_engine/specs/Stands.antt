@@ -5,7 +5,7 @@ use Rattle.std.specs.Prelude.{◌∷◌, ◌++◌, fold, length, slice_get, Opti
 use Rattle.std.specs.List.{sum_by, list_any}
 use Rattle.ctr_csrs.specs.Depths.{entries_of}
 use Rattle.perf_sample.specs.declared.sample.Sample.{Sample}
-use Rattle.replay_engine.specs.declared.sampling.Subject.{Subject}
+use Rattle.replay_engine.specs.declared.sampling.SampleContext.{SampleContext}
 use Rattle.rv_hart.specs.Hart.{HartState, fresh_hart}
 use Rattle.rv_hart.specs.Task.{Irq}
 use Rattle.task_switch.specs.Costs.{save_cost, restore_cost}
@@ -15,8 +15,8 @@ use Rattle.sched_text.specs.declared.schedule.Command.TheVariants.{End}
 use Rattle.replay_engine.specs.Tasks.{TaskState, PresentState, AreInverse}
 use Rattle.replay_engine.specs.Samples.{sample_of, sampling_cost}
 use Rattle.replay_engine.specs.Runs.{present_after, sampling_costs, due_sample}
-use Rattle.replay_engine.specs.declared.plan.Orders.{Orders}
-use Rattle.replay_engine.specs.View.{View, Plan, view_of, subject_of, is_at}
+use Rattle.replay_engine.specs.declared.plan.TaskPlan.{TaskPlan}
+use Rattle.replay_engine.specs.View.{View, Plan, view_of, context_of, is_at}
 
 -- the steps of a command that are those of a task, and of a hart
 abbrev pub steps_for : ℕ → Command → ℕ
@@ -58,7 +58,7 @@ abbrev pub resident_after : List Command → ℕ → Option ℕ
 resident_after cs h = fold (resident_next h) None cs
 
 -- the depth of a task in its lone run after so many steps
-abbrev pub task_depth_by : Option PresentState → Option Orders → ℕ → ℕ
+abbrev pub task_depth_by : Option PresentState → Option TaskPlan → ℕ → ℕ
 task_depth_by (Some p) (Some o) n = entries_of (present_after o.irqs n p).state.unit.stack.depth
 task_depth_by (Some p) None n = 0
 task_depth_by None o n = 0
@@ -79,9 +79,9 @@ bringing depth q r t h k = cond (is_at q h) 0
     + cond (nat_eq k h) (leaving depth r + restore_cost (depth t)) 0)
 
 -- the accesses of the samples of a run, in the lone run of the task
-abbrev pub run_costs : Option PresentState → Option Orders → Plan → ℕ → ℕ → ℕ → ℕ → ℕ
+abbrev pub run_costs : Option PresentState → Option TaskPlan → Plan → ℕ → ℕ → ℕ → ℕ → ℕ
 run_costs (Some p) (Some o) plan h t m n =
-    sampling_costs (subject_of plan h t o) o.irqs n (present_after o.irqs m p)
+    sampling_costs (context_of plan h t o) o.irqs n (present_after o.irqs m p)
 run_costs (Some p) None plan h t m n = 0
 run_costs None o plan h t m n = 0
 
@@ -114,7 +114,7 @@ pub record ViewStandsFor (plan : Plan) (first : List PresentState) (cs : List Co
   pub size : length v.places ≡ length first
   pub orders : length plan.tasks ≡ length first
   pub sixteen : length v.residents ≡ 16
-  pub present_states : (t : ℕ) (p : PresentState) (o : Orders) → slice_get first t ≡ Some p →
+  pub present_states : (t : ℕ) (p : PresentState) (o : TaskPlan) → slice_get first t ≡ Some p →
       slice_get plan.tasks t ≡ Some o → slice_get v.present_states t
       ≡ Some (present_after o.irqs (own_steps cs t) p)
   pub places : (t : ℕ) (p : PresentState) → slice_get first t ≡ Some p → slice_get v.places t
@@ -143,29 +143,29 @@ pub record StandsFor (plan : Plan) (first : List PresentState) (cs : List Comman
 
 -- the command may be performed after the commands before it
 abbrev pub CanPerform : Plan → List PresentState → List Command → Command → Type 0
-CanPerform plan first cs (Run h t n) = (p : PresentState) × (o : Orders)
+CanPerform plan first cs (Run h t n) = (p : PresentState) × (o : TaskPlan)
     × (slice_get first t ≡ Some p) × (slice_get plan.tasks t ≡ Some o) × (h < 16)
-CanPerform plan first cs (Sampled t) = (p : PresentState) × (o : Orders)
+CanPerform plan first cs (Sampled t) = (p : PresentState) × (o : TaskPlan)
     × (slice_get first t ≡ Some p) × (slice_get plan.tasks t ≡ Some o) × (h : ℕ) × (h < 16)
     × (place_after cs t ≡ Some h)
 CanPerform plan first cs (Evict h) = (u : ℕ) × (h < 16) × (resident_after cs h ≡ Some u)
 CanPerform plan first cs End = Unit {0}
 
 -- the samples of the lone run of a task, above a count and so many steps on
-abbrev pub lone_samples : Subject → List Irq → ℕ → ℕ → PresentState → List Sample
+abbrev pub lone_samples : SampleContext → List Irq → ℕ → ℕ → PresentState → List Sample
 lone_samples s irqs m zero p = []
 lone_samples s irqs m (suc n) p =
     lone_samples s irqs m n p ++ due_sample s (present_after irqs (m + suc n) p)
 
-abbrev pub lone_run_samples : Option PresentState → Option Orders → Plan → ℕ → ℕ → ℕ → ℕ →
+abbrev pub lone_run_samples : Option PresentState → Option TaskPlan → Plan → ℕ → ℕ → ℕ → ℕ →
     List Sample
-lone_run_samples (Some p) (Some o) plan h t m n = lone_samples (subject_of plan h t o) o.irqs m n p
+lone_run_samples (Some p) (Some o) plan h t m n = lone_samples (context_of plan h t o) o.irqs m n p
 lone_run_samples (Some p) None plan h t m n = []
 lone_run_samples None o plan h t m n = []
 
-abbrev pub lone_sample : Option PresentState → Option Orders → Option ℕ → Plan → ℕ → ℕ → List Sample
+abbrev pub lone_sample : Option PresentState → Option TaskPlan → Option ℕ → Plan → ℕ → ℕ → List Sample
 lone_sample (Some p) (Some o) (Some h) plan t m =
-    sample_of (subject_of plan h t o) (present_after o.irqs m p) ∷ []
+    sample_of (context_of plan h t o) (present_after o.irqs m p) ∷ []
 lone_sample _ _ _ plan t m = []
 
 -- the samples of a command after the commands before it, from the lone runs

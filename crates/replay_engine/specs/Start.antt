@@ -17,7 +17,7 @@ use Rattle.sched_text.specs.declared.schedule.Header.{Header}
 use Rattle.sched_text.specs.declared.schedule.IrqLine.{IrqLine}
 use Rattle.sched_text.specs.declared.schedule.TaskLine.{TaskLine}
 use Rattle.sched_text.specs.Irqs.{lines_of_task}
-use Rattle.replay_engine.specs.declared.plan.Orders.{Orders}
+use Rattle.replay_engine.specs.declared.plan.TaskPlan.{TaskPlan}
 use Rattle.replay_engine.specs.Engine.{EngineState}
 use Rattle.replay_engine.specs.Samples.{sample_of}
 use Rattle.replay_engine.specs.Tasks.{TaskState, PresentState}
@@ -39,15 +39,15 @@ interrupt_of line = record { step = line.step; cause = line.cause }
 abbrev pub irqs_of : ℕ → List IrqLine → List Irq
 irqs_of task lines = map interrupt_of (lines_of_task task lines)
 
--- the orders of tasks that are numbered from here on
-abbrev pub orders_from : ℕ → List TaskLine → List IrqLine → List Orders
-orders_from t [] irqs = []
-orders_from t (l ∷ ls) irqs = record {
+-- the plans of tasks that are numbered from here on
+abbrev pub task_plans_from : ℕ → List TaskLine → List IrqLine → List TaskPlan
+task_plans_from t [] irqs = []
+task_plans_from t (l ∷ ls) irqs = record {
   memory = l.mem;
   period = l.period;
   irqs =
       irqs_of t irqs;
-} ∷ orders_from (suc t) ls irqs
+} ∷ task_plans_from (suc t) ls irqs
 
 -- a task line as a task of its own
 abbrev pub task_of_line : TaskLine → List ℕ → List Irq → Task
@@ -101,7 +101,7 @@ abbrev pub plan_of : Header → Plan
 plan_of h = record {
   harts = h.harts;
   layout = sample_layout h;
-  tasks = orders_from 0 h.tasks h.irqs;
+  tasks = task_plans_from 0 h.tasks h.irqs;
 }
 
 -- no task is on a hart, none made a step

@@ -7,11 +7,11 @@ use Rattle.perf_sample.specs.declared.sample.Sample.{Sample}
 use Rattle.perf_sample.specs.Layout.{LayoutWords}
 use Rattle.rv_hart.specs.Hart.{HartState}
 use Rattle.task_switch.specs.Costs.{save_cost, restore_cost}
-use Rattle.replay_engine.specs.declared.sampling.Subject.{Subject}
+use Rattle.replay_engine.specs.declared.sampling.SampleContext.{SampleContext}
 use Rattle.sched_text.specs.declared.schedule.Command.{Command}
 use Rattle.sched_text.specs.declared.schedule.Command.TheVariants.{Run, Sample as Sampled, Evict}
 use Rattle.sched_text.specs.declared.schedule.Command.TheVariants.{End}
-use Rattle.replay_engine.specs.declared.plan.Orders.{Orders}
+use Rattle.replay_engine.specs.declared.plan.TaskPlan.{TaskPlan}
 use Rattle.replay_engine.specs.Tasks.{TaskState, PresentState, present_states, places, residents}
 use Rattle.replay_engine.specs.Samples.{sample_of, sample_cost}
 use Rattle.replay_engine.specs.Runs.{present_after, samples_of_steps, sampling_costs}
@@ -46,10 +46,10 @@ view_of ts hs = record {
 pub record Plan : Type 0 where
   pub harts : ℕ
   pub layout : LayoutWords
-  pub tasks : List Orders
+  pub tasks : List TaskPlan
 
-abbrev pub subject_of : Plan → ℕ → ℕ → Orders → Subject
-subject_of plan h t o = record { layout = plan.layout; task = t; hart = h; period = o.period }
+abbrev pub context_of : Plan → ℕ → ℕ → TaskPlan → SampleContext
+context_of plan h t o = record { layout = plan.layout; task = t; hart = h; period = o.period }
 
 -- a number is added to an item of a list
 abbrev pub add_at : List ℕ → ℕ → ℕ → List ℕ
@@ -114,11 +114,11 @@ after_bringing t h v = cond (is_on (slice_get v.places t) h) v
     (after_arriving t h (after_freeing h (after_parting t v)))
 
 -- steps of a task on a hart
-abbrev pub after_running_by : Option PresentState → Option Orders → Plan → ℕ → ℕ → ℕ → View → View
+abbrev pub after_running_by : Option PresentState → Option TaskPlan → Plan → ℕ → ℕ → ℕ → View → View
 after_running_by (Some p) (Some o) plan h t n v = record v {
   present_states = slice_set v.present_states t (present_after o.irqs n p);
   steps = add_at v.steps h n;
-  accesses = add_at v.accesses h (sampling_costs (subject_of plan h t o) o.irqs n p);
+  accesses = add_at v.accesses h (sampling_costs (context_of plan h t o) o.irqs n p);
 }
 after_running_by (Some p) None plan h t n v = v
 after_running_by None o plan h t n v = v
@@ -143,14 +143,14 @@ after_command plan v (Sampled t) =
 after_command plan v (Evict h) = after_freeing h v
 after_command plan v End = v
 
-abbrev pub samples_of_run : Option PresentState → Option Orders → Plan → ℕ → ℕ → ℕ → List Sample
-samples_of_run (Some p) (Some o) plan h t n = samples_of_steps (subject_of plan h t o) o.irqs n p
+abbrev pub samples_of_run : Option PresentState → Option TaskPlan → Plan → ℕ → ℕ → ℕ → List Sample
+samples_of_run (Some p) (Some o) plan h t n = samples_of_steps (context_of plan h t o) o.irqs n p
 samples_of_run (Some p) None plan h t n = []
 samples_of_run None o plan h t n = []
 
-abbrev pub sample_at_place : Option PresentState → Option (Option ℕ) → Option Orders → Plan → ℕ →
+abbrev pub sample_at_place : Option PresentState → Option (Option ℕ) → Option TaskPlan → Plan → ℕ →
     List Sample
-sample_at_place (Some p) (Some (Some h)) (Some o) plan t = sample_of (subject_of plan h t o) p ∷ []
+sample_at_place (Some p) (Some (Some h)) (Some o) plan t = sample_of (context_of plan h t o) p ∷ []
 sample_at_place _ _ _ plan t = []
 
 -- and the samples that it gives

@@ -9,7 +9,7 @@ use Rattle.rv_hart.specs.Task.{Task}
 use Rattle.sched_text.specs.declared.schedule.Command.{Command}
 use Rattle.sched_text.specs.declared.schedule.Command.TheVariants.{Run, Sample as Sampled, Evict}
 use Rattle.sched_text.specs.declared.schedule.Command.TheVariants.{End}
-use Rattle.replay_engine.specs.declared.plan.Orders.{Orders}
+use Rattle.replay_engine.specs.declared.plan.TaskPlan.{TaskPlan}
 use Rattle.replay_engine.specs.Samples.{branch_of_entry}
 use Rattle.replay_engine.specs.Stands.{own_steps, place_after}
 use Rattle.replay_engine.specs.View.{Plan}
@@ -22,7 +22,7 @@ pub record ShowsVisible (history : List Event) (x : Sample) : Type 0 where
 
 -- a plan raises the interrupts of these tasks
 abbrev pub IsPlanOf : List Task → Plan → Type 0
-IsPlanOf tasks plan = (t : ℕ) (task : Task) (o : Orders) → slice_get tasks t ≡ Some task →
+IsPlanOf tasks plan = (t : ℕ) (task : Task) (o : TaskPlan) → slice_get tasks t ≡ Some task →
     slice_get plan.tasks t ≡ Some o → o.irqs ≡ task.irqs
 
 -- after others a command may give a sample of this task on this hart at this own count: a run of

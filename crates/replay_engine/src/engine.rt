@@ -7,7 +7,7 @@ ghost use Rattle.sched_text.specs.Header.{IsHeader};
 ghost use Rattle.sched_text.specs.Rows.{IsCommand};
 ghost use Rattle.sched_text.specs.declared.limits.TheConstants.{MAX_STEPS};
 ghost use Rattle.sched_text.specs.declared.schedule.Command.{Command};
-ghost use Rattle.replay_engine.specs.Counts.{HasRoom, CountsWithin};
+ghost use Rattle.replay_engine.specs.Counts.{CountsHaveRoom, CountsWithin};
 ghost use Rattle.replay_engine.specs.Engine.{IsEngine};
 ghost use Rattle.replay_engine.specs.Outcome.{IsOutcome, is_write, is_write_fault};
 ghost use Rattle.replay_engine.specs.Stands.{StandsFor};
@@ -21,7 +21,7 @@ use crate::fault::PerformFault;
 use crate::performing::{attempt, is_write};
 use crate::plan::Plan;
 use crate::sampling::SampleRoom;
-use crate::starting::{TaskMems, first_tasks, layout_of, orders_of};
+use crate::starting::{TaskMems, first_tasks, layout_of, task_plans_of};
 use crate::tasks::Tasks;
 use ctr_port::{NoMemory, Sink};
 use rv_hart::{Harts, step_laws};
@@ -78,14 +78,14 @@ impl Engine {
     {
         let layout = layout_of(&header);
         let room = Box::new(alloc, SampleRoom::new())?;
-        let orders = orders_of(alloc, &header.tasks, &header.irqs)?;
+        let plans = task_plans_of(alloc, &header.tasks, &header.irqs)?;
         let tasks = first_tasks(alloc, &header.tasks, mems)?;
         tasks.facts();
         Ok(Engine {
             plan: Plan {
                 harts: header.harts,
                 layout,
-                tasks: orders,
+                tasks: plans,
             },
             tasks,
             broken: false,
@@ -116,7 +116,7 @@ impl Engine {
         sink: &mut K,
     ) -> Result<(), PerformFault>
         requires places { PlacesAgree self.old.tasks harts.old }
-        requires room { HasRoom (2 ^ 61) (view_of self.old.tasks harts.old) }
+        requires room { CountsHaveRoom (2 ^ 61) (view_of self.old.tasks harts.old) }
         requires command { IsCommand command }
         requires broken { self.old.broken ≡ false }
 

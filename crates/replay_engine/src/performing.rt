@@ -4,16 +4,16 @@ ghost use Rattle.std.specs.Prelude.{None, Err, length, OnOk, OnErr};
 ghost use Rattle.ctr_port.specs.Counts.{Rose};
 ghost use Rattle.sched_text.specs.Rows.{IsCommand};
 ghost use Rattle.sched_text.specs.declared.limits.TheConstants.{MAX_STEPS};
-ghost use Rattle.replay_engine.specs.Counts.{HasRoom};
+ghost use Rattle.replay_engine.specs.Counts.{CountsHaveRoom};
 ghost use Rattle.replay_engine.specs.Parts.{RunAmong, CutAmong, SampleAmong, SampleCutAmong};
 ghost use Rattle.sched_text.specs.declared.schedule.Command.TheVariants as command;
 ghost use Rattle.replay_engine.specs.View.{view_of};
 ghost use Rattle.replay_engine.specs.Outcome.{IsReady, IsOutcome, is_write};
 
 use crate::fault::PerformFault;
-use crate::plan::{Orders, Plan};
+use crate::plan::{Plan, TaskPlan};
 use crate::running::run_steps;
-use crate::sampling::{SampleRoom, Subject, write_sample};
+use crate::sampling::{SampleContext, SampleRoom, write_sample};
 use crate::tasks::Tasks;
 use ctr_port::{Sink, WriteFault};
 use rv_hart::Harts;
@@ -23,29 +23,29 @@ use sched_text::Command;
 fn run_on_hart<K: Sink>(
     tasks: &mut Tasks,
     harts: &mut Harts,
-    orders: &Orders,
-    subject: &Subject,
+    task_plan: &TaskPlan,
+    context: &SampleContext,
     steps: u32,
     room: &mut SampleRoom,
     sink: &mut K,
 ) -> Result<(), WriteFault>
-    requires task { subject.now.task < length tasks.old }
-    requires hart { subject.now.hart < 16 }
+    requires task { context.now.task < length tasks.old }
+    requires hart { context.now.hart < 16 }
     requires few { steps ≤ MAX_STEPS }
-    requires room { HasRoom (2 ^ 61 + 3090) (view_of tasks.old harts.old) }
+    requires room { CountsHaveRoom (2 ^ 61 + 3090) (view_of tasks.old harts.old) }
     ensures whole { OnOk result (RunAmong K.gained sink.old sink.new tasks.old tasks.new harts.old
-        harts.new subject.now orders.now.irqs steps) }
+        harts.new context.now task_plan.now.irqs steps) }
     ensures part { OnErr result (CutAmong K.gained sink.old sink.new tasks.old tasks.new harts.old
-        harts.new subject.now orders.now.irqs steps) }
+        harts.new context.now task_plan.now.irqs steps) }
     ensures size { length tasks.new ≡ length tasks.old }
     ensures later { K.faults sink.old ≤ K.faults sink.new }
     ensures cause { OnErr result (Rose (K.faults sink.old) (K.faults sink.new)) }
 {
     run_steps(
-        harts.hart_mut(subject.hart as usize),
-        &mut tasks.list[subject.task as usize],
-        &orders.irqs,
-        subject,
+        harts.hart_mut(context.hart as usize),
+        &mut tasks.list[context.task as usize],
+        &task_plan.irqs,
+        context,
         steps,
         room,
         sink,
@@ -56,24 +56,24 @@ fn run_on_hart<K: Sink>(
 fn sample_on_hart<K: Sink>(
     tasks: &Tasks,
     harts: &mut Harts,
-    subject: &Subject,
+    context: &SampleContext,
     room: &mut SampleRoom,
     sink: &mut K,
 ) -> Result<(), WriteFault>
-    requires task { subject.now.task < length tasks.now }
-    requires hart { subject.now.hart < 16 }
-    requires room { HasRoom (2 ^ 61) (view_of tasks.now harts.old) }
+    requires task { context.now.task < length tasks.now }
+    requires hart { context.now.hart < 16 }
+    requires room { CountsHaveRoom (2 ^ 61) (view_of tasks.now harts.old) }
     ensures whole { OnOk result (SampleAmong K.gained sink.old sink.new tasks.now harts.old
-        harts.new subject.now) }
+        harts.new context.now) }
     ensures part { OnErr result (SampleCutAmong K.gained sink.old sink.new tasks.now harts.old
-        harts.new subject.now) }
+        harts.new context.now) }
     ensures later { K.faults sink.old ≤ K.faults sink.new }
     ensures cause { OnErr result (Rose (K.faults sink.old) (K.faults sink.new)) }
 {
-    let steps = tasks.list[subject.task as usize].steps;
+    let steps = tasks.list[context.task as usize].steps;
     write_sample(
-        harts.hart_mut(subject.hart as usize),
-        subject,
+        harts.hart_mut(context.hart as usize),
+        context,
         steps,
         room,
         sink,
@@ -106,15 +106,15 @@ fn run<K: Sink>(
         return Err(PerformFault::NoHart);
     }
     let (h, t) = (hart as u8, task as u8);
-    let orders = &plan.tasks[t as usize];
-    let subject = Subject {
+    let task_plan = &plan.tasks[t as usize];
+    let context = SampleContext {
         layout: plan.layout,
         task: t,
         hart: h,
-        period: orders.period,
+        period: task_plan.period,
     };
     tasks.bring(t, h, harts);
-    match run_on_hart(tasks, harts, orders, &subject, steps, room, sink) {
+    match run_on_hart(tasks, harts, task_plan, &context, steps, room, sink) {
         Ok(()) => Ok(()),
         Err(_) => Err(PerformFault::Write),
     }
@@ -143,13 +143,13 @@ fn sample<K: Sink>(
     match tasks.place(t) {
         None => Err(PerformFault::NotResident),
         Some(h) => {
-            let subject = Subject {
+            let context = SampleContext {
                 layout: plan.layout,
                 task: t,
                 hart: h,
                 period: plan.tasks[t as usize].period,
             };
-            match sample_on_hart(tasks, harts, &subject, room, sink) {
+            match sample_on_hart(tasks, harts, &context, room, sink) {
                 Ok(()) => Ok(()),
                 Err(_) => Err(PerformFault::Write),
             }

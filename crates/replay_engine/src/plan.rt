@@ -6,7 +6,7 @@ use std::marker::Model;
 /// What a schedule says of a task once: the size of its memory in bytes, the period of its samples
 /// in steps of its own, 0 for none, and its interrupts.
 #[derive(Drop)]
-pub struct Orders {
+pub struct TaskPlan {
     pub memory: u32,
     pub period: u32,
     pub irqs: Irqs,
@@ -17,7 +17,7 @@ pub struct Orders {
 pub struct Plan {
     pub(crate) harts: u8,
     pub(crate) layout: Layout,
-    pub(crate) tasks: Vec<Orders>,
+    pub(crate) tasks: Vec<TaskPlan>,
 }
 
 impl Model for Plan {

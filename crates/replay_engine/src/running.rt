@@ -12,7 +12,7 @@ ghost use Rattle.replay_engine.specs.Runs.{next_present, due_sample, due_cost, s
 ghost use Rattle.replay_engine.specs.Tasks.{state_on};
 
 use crate::irqs::Irqs;
-use crate::sampling::{SampleRoom, Subject, write_sample};
+use crate::sampling::{SampleContext, SampleRoom, write_sample};
 use crate::task::Task;
 use ctr_port::{Sink, WriteFault};
 use rv_hart::{Hart, Store};
@@ -54,7 +54,7 @@ fn next_due(period: u32, steps: u64) -> u64
 fn write_due<K: Sink>(
     hart: &mut Hart<Store>,
     task: &Task,
-    subject: &Subject,
+    context: &SampleContext,
     due: &mut u64,
     room: &mut SampleRoom,
     sink: &mut K,
@@ -62,25 +62,25 @@ fn write_due<K: Sink>(
     requires room { hart.old.accesses + 2 ≤ 2 ^ 62 }
     requires steps { task.now.steps ≤ 2 ^ 62 }
     requires some { 1 ≤ task.now.steps }
-    requires due { due.old ≡ next_due subject.now.period (task.now.steps - 1) }
+    requires due { due.old ≡ next_due context.now.period (task.now.steps - 1) }
     ensures whole { OnOk result
-        (K.gained sink.old (spellings subject.now.layout
-        (due_sample subject.now (state_on hart.old task.now))) sink.new) }
+        (K.gained sink.old (spellings context.now.layout
+        (due_sample context.now (state_on hart.old task.now))) sink.new) }
     ensures part { OnErr result (GainsPart K.gained sink.old sink.new
-        (spellings subject.now.layout (due_sample subject.now (state_on hart.old task.now)))) }
+        (spellings context.now.layout (due_sample context.now (state_on hart.old task.now)))) }
     ensures hart { hart.new ≡ record hart.old {
       accesses =
-          hart.old.accesses + due_cost subject.now (state_on hart.old task.now);
+          hart.old.accesses + due_cost context.now (state_on hart.old task.now);
     } }
-    ensures due { due.new ≡ next_due subject.now.period task.now.steps }
+    ensures due { due.new ≡ next_due context.now.period task.now.steps }
     ensures later { K.faults sink.old ≤ K.faults sink.new }
     ensures cause { OnErr result (Rose (K.faults sink.old) (K.faults sink.new)) }
 {
     if task.steps != *due {
         return Ok(());
     }
-    *due = next_due(subject.period, task.steps);
-    write_sample(hart, subject, task.steps, room, sink)
+    *due = next_due(context.period, task.steps);
+    write_sample(hart, context, task.steps, room, sink)
 }
 
 // Makes so many steps of a task on a hart, and writes the samples that its period wants. It is
@@ -90,7 +90,7 @@ pub(crate) fn run_steps<K: Sink>(
     hart: &mut Hart<Store>,
     task: &mut Task,
     irqs: &Irqs,
-    subject: &Subject,
+    context: &SampleContext,
     steps: u32,
     room: &mut SampleRoom,
     sink: &mut K,
@@ -100,19 +100,19 @@ pub(crate) fn run_steps<K: Sink>(
     requires hart_room { hart.old.steps ≤ 2 ^ 61 }
     requires task_room { task.old.steps ≤ 2 ^ 61 }
     ensures whole { OnOk result (RunMade K.gained sink.old sink.new hart.old hart.new task.old
-        task.new subject.now irqs.now steps) }
+        task.new context.now irqs.now steps) }
     ensures part { OnErr result (RunCut K.gained sink.old sink.new hart.old hart.new task.old
-        task.new subject.now irqs.now steps) }
+        task.new context.now irqs.now steps) }
     ensures later { K.faults sink.old ≤ K.faults sink.new }
     ensures cause { OnErr result (Rose (K.faults sink.old) (K.faults sink.new)) }
 {
     let mut place = irqs.place(task.next_irq, task.steps);
     let mut next = irqs.step_at(place);
-    let mut due = next_due(subject.period, task.steps);
+    let mut due = next_due(context.period, task.steps);
     for _ in 0..steps {
         let pending = irqs.raised_at(&mut place, &mut next, task.steps);
         step(hart, task, pending);
-        match write_due(hart, task, subject, &mut due, room, sink) {
+        match write_due(hart, task, context, &mut due, room, sink) {
             Ok(()) => {}
             Err(fault) => return Err(fault),
         }

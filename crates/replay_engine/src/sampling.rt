@@ -27,7 +27,7 @@ use task_switch::{Slots, read_stack_into};
 /// What the samples of a task on a hart have in common: the layout, the number of the task, that of
 /// the hart, and the period in steps of the task, which is 0 where no step asks for a sample.
 #[derive(Drop)]
-pub struct Subject {
+pub struct SampleContext {
     pub layout: Layout,
     pub task: u8,
     pub hart: u8,
@@ -157,25 +157,25 @@ fn hw_index(layout: Layout, slots: &Slots, youngest: u64) -> u64
 // of its hart.
 fn fill(
     hart: &mut Hart<Store>,
-    subject: &Subject,
+    context: &SampleContext,
     steps: u64,
     slots: &mut Slots,
     sample: &mut Sample,
 )
     requires { hart.old.accesses + 2 ≤ 2 ^ 62 }
-    ensures value { sample.new ≡ sample_by subject.now hart.old.core hart.old.unit.stack steps }
-    ensures fits { Fits subject.now.layout sample.new }
+    ensures value { sample.new ≡ sample_by context.now hart.old.core hart.old.unit.stack steps }
+    ensures fits { Fits context.now.layout sample.new }
     ensures hart { hart.new ≡ record hart.old {
       accesses =
-          hart.old.accesses + (hw_index_cost subject.now.layout +
+          hart.old.accesses + (hw_index_cost context.now.layout +
           read_cost (entries_of hart.old.unit.stack.depth));
     } }
 {
-    let layout = subject.layout;
+    let layout = context.layout;
     let youngest = read_hw_index(hart, layout);
     read_stack_into(hart, slots);
-    let number = u64::from(subject.task);
-    let process = keep_half(layout, Place::Tid, u32::from(subject.task) + 1);
+    let number = u64::from(context.task);
+    let process = keep_half(layout, Place::Tid, u32::from(context.task) + 1);
     sample.misc = misc(hart.core().mode);
     sample.identifier = keep(layout, Place::Identifier, number);
     sample.ip = keep(layout, Place::Ip, hart.core().pc);
@@ -185,8 +185,8 @@ fn fill(
     sample.addr = 0;
     sample.id = keep(layout, Place::Id, number);
     sample.stream_id = 0;
-    sample.cpu = keep_half(layout, Place::Cpu, u32::from(subject.hart));
-    sample.period = keep(layout, Place::Period, u64::from(subject.period));
+    sample.cpu = keep_half(layout, Place::Cpu, u32::from(context.hart));
+    sample.period = keep(layout, Place::Period, u64::from(context.period));
     sample.hw_index = hw_index(layout, slots, youngest);
     put_branches(slots, &mut sample.branches);
 }
@@ -217,7 +217,7 @@ fn write<K: Sink>(
 #[inline(never)]
 pub(crate) fn write_sample<K: Sink>(
     hart: &mut Hart<Store>,
-    subject: &Subject,
+    context: &SampleContext,
     steps: u64,
     room: &mut SampleRoom,
     sink: &mut K,
@@ -225,19 +225,19 @@ pub(crate) fn write_sample<K: Sink>(
     requires { hart.old.accesses + 2 ≤ 2 ^ 62 }
     ensures whole { OnOk result
         (K.gained sink.old
-        (spelling subject.now.layout
-        (sample_by subject.now hart.old.core hart.old.unit.stack steps)) sink.new) }
+        (spelling context.now.layout
+        (sample_by context.now hart.old.core hart.old.unit.stack steps)) sink.new) }
     ensures part { OnErr result (GainsPart K.gained sink.old sink.new
-        (spelling subject.now.layout
-        (sample_by subject.now hart.old.core hart.old.unit.stack steps))) }
+        (spelling context.now.layout
+        (sample_by context.now hart.old.core hart.old.unit.stack steps))) }
     ensures hart { hart.new ≡ record hart.old {
       accesses =
-          hart.old.accesses + (hw_index_cost subject.now.layout +
+          hart.old.accesses + (hw_index_cost context.now.layout +
           read_cost (entries_of hart.old.unit.stack.depth));
     } }
     ensures later { K.faults sink.old ≤ K.faults sink.new }
     ensures cause { OnErr result (Rose (K.faults sink.old) (K.faults sink.new)) }
 {
-    fill(hart, subject, steps, &mut room.slots, &mut room.sample);
-    write(subject.layout, &room.sample, &mut room.bytes, sink)
+    fill(hart, context, steps, &mut room.slots, &mut room.sample);
+    write(context.layout, &room.sample, &mut room.bytes, sink)
 }

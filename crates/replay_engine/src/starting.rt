@@ -7,11 +7,11 @@ ghost use Rattle.replay_engine.specs.Tasks.{state_off};
 ghost use Rattle.replay_engine.specs.Engine.{HasWholeArea};
 ghost use Rattle.replay_engine.specs.Irqs.{AreIrqs};
 ghost use Rattle.replay_engine.specs.Start.{fresh_task, fresh_tasks, depth_named, task_of_line};
-ghost use Rattle.replay_engine.specs.Start.{first_present, irqs_of, orders_from};
+ghost use Rattle.replay_engine.specs.Start.{first_present, irqs_of, task_plans_from};
 ghost use Rattle.rv_hart.specs.Memory.{memory_of};
 
 use crate::irqs::{Irq, Irqs};
-use crate::plan::Orders;
+use crate::plan::TaskPlan;
 use crate::task::Task;
 use crate::tasks::Tasks;
 use ctr_csrs::{Depth, depth_of};
@@ -131,20 +131,20 @@ fn irqs_of(alloc: Global, lines: &IrqLines, task: u8) -> Result<Irqs, NoMemory>
     Ok(irqs)
 }
 
-// The orders of the tasks.
-pub(crate) fn orders_of(
+// The plans of the tasks.
+pub(crate) fn task_plans_of(
     alloc: Global,
     tasks: &TaskLines,
     irqs: &IrqLines,
-) -> Result<Vec<Orders>, NoMemory>
+) -> Result<Vec<TaskPlan>, NoMemory>
     requires few { length tasks.now ≤ 64 }
     requires irqs { (t : ℕ) → AreIrqs (irqs_of t irqs.now) }
-    ensures { IfOk result (λ os. os.items ≡ orders_from 0 tasks.now irqs.now) }
+    ensures { IfOk result (λ os. os.items ≡ task_plans_from 0 tasks.now irqs.now) }
 {
     let mut list = Vec::new(alloc);
     let mut t = 0;
     for line in tasks.items() {
-        list.push(Orders {
+        list.push(TaskPlan {
             memory: line.mem,
             period: line.period,
             irqs: irqs_of(alloc, irqs, t)?,

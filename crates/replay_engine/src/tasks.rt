@@ -7,7 +7,7 @@ ghost use Rattle.rv_hart.specs.Hart.{HartState};
 ghost use Rattle.task_switch.specs.Costs.{save_cost, restore_cost};
 ghost use Rattle.task_switch.specs.SaveArea.{area_of, unit_in};
 ghost use Rattle.task_switch.specs.WhilePassing.{with_last_select};
-ghost use Rattle.replay_engine.specs.Counts.{HasRoom};
+ghost use Rattle.replay_engine.specs.Counts.{CountsHaveRoom};
 ghost use Rattle.replay_engine.specs.Engine.{HasWholeArea};
 ghost use Rattle.replay_engine.specs.Tasks.{TaskState, places, residents, PlacesAgree};
 ghost use Rattle.replay_engine.specs.View.{view_of, after_leaving, after_arriving, after_parting};
@@ -65,7 +65,7 @@ impl Tasks {
     fn save_off(&mut self, t: u8, h: u8, harts: &mut Harts)
         requires task { t < length self.old }
         requires hart { h < 16 }
-        requires room { HasRoom (2 ^ 62) (view_of self.old harts.old) }
+        requires room { CountsHaveRoom (2 ^ 62) (view_of self.old harts.old) }
         ensures task { (x : TaskState) (y : HartState) → slice_get self.old t ≡ Some x →
             slice_get harts.old h ≡ Some y → self.new
             ≡ slice_set self.old t
@@ -90,7 +90,7 @@ impl Tasks {
     fn restore_on(&mut self, t: u8, h: u8, harts: &mut Harts)
         requires task { t < length self.old }
         requires hart { h < 16 }
-        requires room { HasRoom (2 ^ 62) (view_of self.old harts.old) }
+        requires room { CountsHaveRoom (2 ^ 62) (view_of self.old harts.old) }
         ensures task { (x : TaskState) (y : HartState) → slice_get self.old t ≡ Some x →
             slice_get harts.old h ≡ Some y → self.new
             ≡ slice_set self.old t (record x { core = y.core; place = Some h }) }
@@ -111,14 +111,14 @@ impl Tasks {
     fn leave(&mut self, t: u8, h: u8, harts: &mut Harts)
         requires kept { PlacesAgree self.old harts.old }
         requires there { slice_get (places self.old) t ≡ Some (Some h) }
-        requires room { HasRoom (2 ^ 62) (view_of self.old harts.old) }
+        requires room { CountsHaveRoom (2 ^ 62) (view_of self.old harts.old) }
         ensures view { view_of self.new harts.new ≡ after_leaving t h (view_of self.old harts.old) }
         ensures kept { PlacesAgree self.new harts.new }
         ensures others { (k : ℕ) → (k ≡ h → ⊥) → slice_get harts.new k ≡ slice_get harts.old k }
         ensures places { places self.new ≡ slice_set (places self.old) t None }
         ensures residents { residents harts.new ≡ slice_set (residents harts.old) h None }
-        ensures room { (n : ℕ) → HasRoom n (view_of self.old harts.old) →
-            HasRoom (n + 1030) (view_of self.new harts.new) }
+        ensures room { (n : ℕ) → CountsHaveRoom n (view_of self.old harts.old) →
+            CountsHaveRoom (n + 1030) (view_of self.new harts.new) }
     {
         self.save_off(t, h, harts);
     }
@@ -128,31 +128,31 @@ impl Tasks {
         requires kept { PlacesAgree self.old harts.old }
         requires nowhere { slice_get (places self.old) t ≡ Some None }
         requires free { slice_get (residents harts.old) h ≡ Some None }
-        requires room { HasRoom (2 ^ 62) (view_of self.old harts.old) }
+        requires room { CountsHaveRoom (2 ^ 62) (view_of self.old harts.old) }
         ensures view { view_of self.new harts.new
             ≡ after_arriving t h (view_of self.old harts.old) }
         ensures kept { PlacesAgree self.new harts.new }
         ensures others { (k : ℕ) → (k ≡ h → ⊥) → slice_get harts.new k ≡ slice_get harts.old k }
         ensures places { places self.new ≡ slice_set (places self.old) t (Some h) }
-        ensures room { (n : ℕ) → HasRoom n (view_of self.old harts.old) →
-            HasRoom (n + 1030) (view_of self.new harts.new) }
+        ensures room { (n : ℕ) → CountsHaveRoom n (view_of self.old harts.old) →
+            CountsHaveRoom (n + 1030) (view_of self.new harts.new) }
     {
         self.restore_on(t, h, harts);
     }
 
     // A task leaves the hart that it is on, if it is on one.
-    fn part(&mut self, t: u8, harts: &mut Harts)
+    fn leave_hart(&mut self, t: u8, harts: &mut Harts)
         requires kept { PlacesAgree self.old harts.old }
         requires task { t < length self.old }
-        requires room { HasRoom (2 ^ 62) (view_of self.old harts.old) }
+        requires room { CountsHaveRoom (2 ^ 62) (view_of self.old harts.old) }
         ensures view { view_of self.new harts.new ≡ after_parting t (view_of self.old harts.old) }
         ensures kept { PlacesAgree self.new harts.new }
         ensures others { (k : ℕ) → (slice_get (places self.old) t ≡ Some (Some k) → ⊥)
             → slice_get harts.new k ≡ slice_get harts.old k }
         ensures nowhere { slice_get (places self.new) t ≡ Some None }
         ensures size { length self.new ≡ length self.old }
-        ensures room { (n : ℕ) → HasRoom n (view_of self.old harts.old) →
-            HasRoom (n + 1030) (view_of self.new harts.new) }
+        ensures room { (n : ℕ) → CountsHaveRoom n (view_of self.old harts.old) →
+            CountsHaveRoom (n + 1030) (view_of self.new harts.new) }
     {
         if let Some(h) = self.place(t) {
             self.leave(t, h, harts);
@@ -163,7 +163,7 @@ impl Tasks {
     pub(crate) fn free(&mut self, h: u8, harts: &mut Harts)
         requires kept { PlacesAgree self.old harts.old }
         requires hart { h < 16 }
-        requires room { HasRoom (2 ^ 62) (view_of self.old harts.old) }
+        requires room { CountsHaveRoom (2 ^ 62) (view_of self.old harts.old) }
         ensures view { view_of self.new harts.new ≡ after_freeing h (view_of self.old harts.old) }
         ensures kept { PlacesAgree self.new harts.new }
         ensures others { (k : ℕ) → (k ≡ h → ⊥) → slice_get harts.new k ≡ slice_get harts.old k }
@@ -171,8 +171,8 @@ impl Tasks {
         ensures stays { (t : ℕ) → slice_get (places self.old) t ≡ Some None →
             slice_get (places self.new) t ≡ Some None }
         ensures size { length self.new ≡ length self.old }
-        ensures room { (n : ℕ) → HasRoom n (view_of self.old harts.old) →
-            HasRoom (n + 1030) (view_of self.new harts.new) }
+        ensures room { (n : ℕ) → CountsHaveRoom n (view_of self.old harts.old) →
+            CountsHaveRoom (n + 1030) (view_of self.new harts.new) }
     {
         match harts.hart(h as usize).resident() {
             Some(t) => self.leave(t, h, harts),
@@ -196,7 +196,7 @@ impl Tasks {
         requires kept { PlacesAgree self.old harts.old }
         requires task { t < length self.old }
         requires hart { h < 16 }
-        requires room { HasRoom (2 ^ 61) (view_of self.old harts.old) }
+        requires room { CountsHaveRoom (2 ^ 61) (view_of self.old harts.old) }
         ensures view { view_of self.new harts.new
             ≡ after_arriving t h (after_freeing h (after_parting t (view_of self.old harts.old))) }
         ensures kept { PlacesAgree self.new harts.new }
@@ -204,9 +204,9 @@ impl Tasks {
             → slice_get harts.new k ≡ slice_get harts.old k }
         ensures there { slice_get (places self.new) t ≡ Some (Some h) }
         ensures size { length self.new ≡ length self.old }
-        ensures room { HasRoom (2 ^ 61 + 3090) (view_of self.new harts.new) }
+        ensures room { CountsHaveRoom (2 ^ 61 + 3090) (view_of self.new harts.new) }
     {
-        self.part(t, harts);
+        self.leave_hart(t, harts);
         self.free(h, harts);
         self.arrive(t, h, harts);
     }
@@ -216,7 +216,7 @@ impl Tasks {
         requires kept { PlacesAgree self.old harts.old }
         requires task { t < length self.old }
         requires hart { h < 16 }
-        requires room { HasRoom (2 ^ 61) (view_of self.old harts.old) }
+        requires room { CountsHaveRoom (2 ^ 61) (view_of self.old harts.old) }
         ensures view { view_of self.new harts.new
             ≡ after_bringing t h (view_of self.old harts.old) }
         ensures kept { PlacesAgree self.new harts.new }
@@ -224,7 +224,7 @@ impl Tasks {
             → slice_get harts.new k ≡ slice_get harts.old k }
         ensures there { slice_get (places self.new) t ≡ Some (Some h) }
         ensures size { length self.new ≡ length self.old }
-        ensures room { HasRoom (2 ^ 61 + 3090) (view_of self.new harts.new) }
+        ensures room { CountsHaveRoom (2 ^ 61 + 3090) (view_of self.new harts.new) }
     {
         if !self.is_there(t, h) {
             self.carry(t, h, harts);

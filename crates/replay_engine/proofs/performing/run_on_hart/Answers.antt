@@ -15,22 +15,22 @@ run_steps-requires-clause-accesses g c =
     omega (
       arith,
       room_at (2 ^ 61 + 3090)
-          c.args.tasks.now c.args.harts.now c.args.subject.now.hart c.hart_mut.result.now
+          c.args.tasks.now c.args.harts.now c.args.context.now.hart c.hart_mut.result.now
           c.requires.room c.hart_mut.ensures.hart,
     )
 
 pub run_steps-requires-clause-hart_room : goal.run_steps-requires-clause-hart_room
 run_steps-requires-clause-hart_room g c =
     steps_room (2 ^ 61 + 3090)
-    c.args.tasks.now c.args.harts.now c.args.subject.now.hart c.hart_mut.result.now c.requires.room
+    c.args.tasks.now c.args.harts.now c.args.context.now.hart c.hart_mut.result.now c.requires.room
     c.hart_mut.ensures.hart
 
 pub run_steps-requires-clause-task_room : goal.run_steps-requires-clause-task_room
 run_steps-requires-clause-task_room g c =
     count_at (2 ^ 61 + 3090)
-    c.args.tasks.now c.args.harts.now c.args.subject.now.task c.index_mut.result.now
+    c.args.tasks.now c.args.harts.now c.args.context.now.task c.index_mut.result.now
     c.requires.room
-    (got_item c.args.tasks.now c.tasks.inside.list.items c.args.subject.now.task
+    (got_item c.args.tasks.now c.tasks.inside.list.items c.args.context.now.task
     c.index_mut.result.now c.tasks.view_is c.index_mut.ensures.value c.requires.task)
 
 pub returns-clause-whole : goal.returns-clause-whole
@@ -40,10 +40,10 @@ returns-clause-whole g c = on_ok _ _ c.run_steps.result (λ made. record {
   y = c.hart_mut.result.now;
   y' = c.run_steps.new.hart;
   task =
-      got_item c.args.tasks.now c.tasks.inside.list.items c.args.subject.now.task
+      got_item c.args.tasks.now c.tasks.inside.list.items c.args.context.now.task
       c.index_mut.result.now c.tasks.view_is c.index_mut.ensures.value c.requires.task;
   hart = c.hart_mut.ensures.hart;
-  tasks = ap (λ (zs : List TaskState). slice_set zs c.args.subject.now.task c.run_steps.new.task)
+  tasks = ap (λ (zs : List TaskState). slice_set zs c.args.context.now.task c.run_steps.new.task)
       c.tasks.view_is;
   harts = refl;
   made = made;
@@ -56,10 +56,10 @@ returns-clause-part g c = on_err _ _ c.run_steps.result (λ made. record {
   y = c.hart_mut.result.now;
   y' = c.run_steps.new.hart;
   task =
-      got_item c.args.tasks.now c.tasks.inside.list.items c.args.subject.now.task
+      got_item c.args.tasks.now c.tasks.inside.list.items c.args.context.now.task
       c.index_mut.result.now c.tasks.view_is c.index_mut.ensures.value c.requires.task;
   hart = c.hart_mut.ensures.hart;
-  tasks = ap (λ (zs : List TaskState). slice_set zs c.args.subject.now.task c.run_steps.new.task)
+  tasks = ap (λ (zs : List TaskState). slice_set zs c.args.context.now.task c.run_steps.new.task)
       c.tasks.view_is;
   harts = refl;
   made = made;
@@ -67,13 +67,13 @@ returns-clause-part g c = on_err _ _ c.run_steps.result (λ made. record {
 
 pub returns-clause-size : goal.returns-clause-size
 returns-clause-size g c =
-    length-set c.tasks.inside.list.items c.args.subject.now.task c.run_steps.new.task
+    length-set c.tasks.inside.list.items c.args.context.now.task c.run_steps.new.task
     ∙ ap length c.tasks.view_is
 
 pub invariant_of-tasks : goal.invariant_of-tasks
 invariant_of-tasks g c =
     let items = c.tasks.inside.list.items in
-    let t = c.args.subject.now.task in
+    let t = c.args.context.now.task in
     let x = c.index_mut.result.now in
     let x' = c.run_steps.new.task in
     let within : t < length items =
@@ -82,7 +82,7 @@ invariant_of-tasks g c =
     subst HasWholeArea (sym c.index_mut.ensures.value)
     (All-get_or HasWholeArea items t x within c.tasks.invariant.1) in
     let kept = area_stays g.K.Sink.gained c.args.sink.now c.run_steps.new.sink
-    c.hart_mut.result.now c.run_steps.new.hart x x' c.args.subject.now c.args.orders.now.irqs
+    c.hart_mut.result.now c.run_steps.new.hart x x' c.args.context.now c.args.task_plan.now.irqs
     c.args.steps c.run_steps.result c.run_steps.ensures.whole c.run_steps.ensures.part in (
       omega (arith, length-set items t x', c.tasks.invariant.0),
       All-set HasWholeArea items t x' (subst IsWhole (sym kept) old) c.tasks.invariant.1,

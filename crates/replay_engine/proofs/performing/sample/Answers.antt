@@ -1,7 +1,7 @@
 use Rattle.std.proofs.Common.{◌≡◌, refl, ℕ, ◌<◌, List, length, sym, ap, arith, subst}
 use Rattle.std.specs.Prelude.{slice_get, Some}
 use Rattle.ctr_port.specs.Sink.{GainsPart}
-use Rattle.replay_engine.specs.declared.sampling.Subject.{Subject}
+use Rattle.replay_engine.specs.declared.sampling.SampleContext.{SampleContext}
 use Rattle.replay_engine.specs.View.{Plan}
 use Rattle.replay_engine.proofs.Items.{got_item}
 use Rattle.replay_engine.proofs.Lifts.{within_harts}
@@ -29,7 +29,7 @@ returns-in-Ok-clause-outcome g c =
     got_item plan.tasks c.plan.inside.tasks.items t o
     (ap (λ (p : Plan). p.tasks) c.plan.view_is) c.index.ensures few in
     let r = subst
-    (λ (s : Subject). SampleAmong g.K.Sink.gained c.args.sink.now c.sample_on_hart.new.sink
+    (λ (s : SampleContext). SampleAmong g.K.Sink.gained c.args.sink.now c.sample_on_hart.new.sink
     c.args.tasks.now c.args.harts.now c.sample_on_hart.new.harts s)
     (sym (same_subject plan h t c.plan.inside.layout o
     (ap (λ (p : Plan). p.layout) c.plan.view_is))) c.in-Ok.ensures.whole in
@@ -59,7 +59,7 @@ returns-in-Err-clause-outcome g c =
     got_item plan.tasks c.plan.inside.tasks.items t o
     (ap (λ (p : Plan). p.tasks) c.plan.view_is) c.index.ensures few in
     let r = subst
-    (λ (s : Subject). SampleCutAmong g.K.Sink.gained c.args.sink.now c.sample_on_hart.new.sink
+    (λ (s : SampleContext). SampleCutAmong g.K.Sink.gained c.args.sink.now c.sample_on_hart.new.sink
     c.args.tasks.now c.args.harts.now c.sample_on_hart.new.harts s)
     (sym (same_subject plan h t c.plan.inside.layout o
     (ap (λ (p : Plan). p.layout) c.plan.view_is))) c.in-Err.ensures.part in

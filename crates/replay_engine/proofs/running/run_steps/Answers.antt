@@ -12,14 +12,14 @@ use Rattle.replay_engine.specs.Parts.{StepsMade, next_due}
 pub write_due-requires-clause-room : goal.write_due-requires-clause-room
 write_due-requires-clause-room g c =
     let room =
-    room_more c.args.hart.now c.loop.hart c.args.task.now c.loop.task c.args.subject.now
+    room_more c.args.hart.now c.loop.hart c.args.task.now c.loop.task c.args.context.now
     c.args.irqs.now c.loop.counter c.loop.invariant.stepped c.requires.accesses
     (omega (arith, c.requires.few, c.loop-test.true)) in
     omega (arith, room, ap (λ (a : HartState). a.accesses) c.step.ensures.hart)
 
 pub write_due-requires-clause-due : goal.write_due-requires-clause-due
 write_due-requires-clause-due g c =
-    let p = c.args.subject.now.period in
+    let p = c.args.context.now.period in
     let before : c.step.new.task.steps - 1 ≡ c.loop.task.steps =
     omega (arith, ap (λ (t : TaskState). t.steps) c.step.ensures.task) in
     c.loop.invariant.due ∙ ap (next_due p) (sym before)
@@ -33,18 +33,18 @@ returns-in-Err-clause-part g c =
     let one = c.step.ensures.seat irqs bits in
     let made =
     turn c.args.hart.now c.loop.hart c.step.new.hart c.write_due.new.hart c.args.task.now
-    c.loop.task c.step.new.task c.args.subject.now irqs c.loop.counter
+    c.loop.task c.step.new.task c.args.context.now irqs c.loop.counter
     c.loop.invariant.stepped one c.step.ensures.hart c.step.ensures.task c.write_due.ensures.hart in
     cut_more g.K.Sink.gained g.met.K.Sink.gained_then c.args.sink.now c.loop.sink
     c.write_due.new.sink c.args.hart.now c.write_due.new.hart c.args.task.now c.step.new.task
-    c.args.subject.now irqs c.loop.counter c.args.steps (state_on c.step.new.hart c.step.new.task)
+    c.args.context.now irqs c.loop.counter c.args.steps (state_on c.step.new.hart c.step.new.task)
     (one ∙ ap (next_present irqs) c.loop.invariant.stepped.seat) c.loop-test.true
     made c.loop.invariant.written c.in-Err.ensures.part
 
 pub loop-preserved : goal.loop-preserved
 loop-preserved g c =
     let irqs = c.args.irqs.now in
-    let s = c.args.subject.now in
+    let s = c.args.context.now in
     let n = c.loop.counter in
     let bits : c.raised_at-pending.result ≡ causes irqs c.loop.task.steps =
     c.raised_at-pending.ensures.bits ∙ ap (λ (t : TaskState). causes irqs t.steps)

@@ -7,12 +7,12 @@ use Rattle.replay_engine.specs.Parts.{StepsMade, next_due}
 
 abbrev pub invariant-loop : goal.invariant-loop
 invariant-loop g l = record {
-  due : l.due ≡ next_due l.subject.period l.task.steps;
+  due : l.due ≡ next_due l.context.period l.task.steps;
   cursor : l.place ≡ place_of l.irqs l.task.steps;
   next : l.next ≡ step_at l.irqs l.place;
-  stepped : StepsMade l.fn.hart l.hart l.fn.task l.task l.subject l.irqs l.counter;
+  stepped : StepsMade l.fn.hart l.hart l.fn.task l.task l.context l.irqs l.counter;
   written : g.K.Sink.gained l.fn.sink
-      (spellings l.subject.layout (samples_of_steps l.subject l.irqs l.counter
+      (spellings l.context.layout (samples_of_steps l.context l.irqs l.counter
       (state_on l.fn.hart l.fn.task))) l.sink;
   later : g.K.Sink.faults l.fn.sink ≤ g.K.Sink.faults l.sink;
 }

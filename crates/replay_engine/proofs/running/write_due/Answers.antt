@@ -14,7 +14,7 @@ use Rattle.replay_engine.proofs.running.write_due.Goals as goal
 -- no sample is due
 pub returns-then-task-due-clause-whole : goal.returns-then-task-due-clause-whole
 returns-then-task-due-clause-whole g c =
-    let s = c.args.subject.now in
+    let s = c.args.context.now in
     let p = state_on c.args.hart.now c.args.task.now in
     let n = c.args.task.now.steps in
     let one : n ≡ n - 1 + 1 = omega (arith, c.requires.some) in
@@ -33,7 +33,7 @@ returns-then-task-due-clause-whole g c =
 
 pub returns-then-task-due-clause-hart : goal.returns-then-task-due-clause-hart
 returns-then-task-due-clause-hart g c =
-    let s = c.args.subject.now in
+    let s = c.args.context.now in
     let y = c.args.hart.now in
     let p = state_on y c.args.task.now in
     let n = c.args.task.now.steps in
@@ -53,7 +53,7 @@ returns-then-task-due-clause-hart g c =
 
 pub returns-then-task-due-clause-due : goal.returns-then-task-due-clause-due
 returns-then-task-due-clause-due g c =
-    let s = c.args.subject.now in
+    let s = c.args.context.now in
     let n = c.args.task.now.steps in
     let one : n ≡ n - 1 + 1 = omega (arith, c.requires.some) in
     let other : n ≡ next_due s.period (n - 1) → ⊥ =
@@ -70,7 +70,7 @@ returns-then-task-due-clause-due g c =
 -- one is
 pub returns-clause-whole : goal.returns-clause-whole
 returns-clause-whole g c =
-    let s = c.args.subject.now in
+    let s = c.args.context.now in
     let y = c.args.hart.now in
     let n = c.args.task.now.steps in
     let one : n ≡ n - 1 + 1 = omega (arith, c.requires.some) in
@@ -91,7 +91,7 @@ returns-clause-whole g c =
 
 pub returns-clause-part : goal.returns-clause-part
 returns-clause-part g c =
-    let s = c.args.subject.now in
+    let s = c.args.context.now in
     let y = c.args.hart.now in
     let n = c.args.task.now.steps in
     let one : n ≡ n - 1 + 1 = omega (arith, c.requires.some) in
@@ -112,7 +112,7 @@ returns-clause-part g c =
 
 pub returns-clause-hart : goal.returns-clause-hart
 returns-clause-hart g c =
-    let s = c.args.subject.now in
+    let s = c.args.context.now in
     let y = c.args.hart.now in
     let p = state_on y c.args.task.now in
     let n = c.args.task.now.steps in

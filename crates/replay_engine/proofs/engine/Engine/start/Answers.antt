@@ -3,7 +3,7 @@ use Rattle.std.specs.List.{All}
 use Rattle.perf_sample.specs.Layout.{LayoutWords}
 use Rattle.rv_hart.specs.Hart.{fresh_harts}
 use Rattle.replay_engine.specs.Counts.{CountsWithin}
-use Rattle.replay_engine.specs.declared.plan.Orders.{Orders}
+use Rattle.replay_engine.specs.declared.plan.TaskPlan.{TaskPlan}
 use Rattle.replay_engine.specs.Engine.{IsEngine, HasWholeArea}
 use Rattle.replay_engine.specs.Stands.{StandsFor}
 use Rattle.replay_engine.specs.Start.{fresh_tasks, plan_of}
@@ -11,12 +11,12 @@ use Rattle.replay_engine.specs.Tasks.{TaskState, PlacesAgree, present_states}
 use Rattle.replay_engine.specs.View.{Plan, view_of}
 use Rattle.replay_engine.proofs.FirstLaws.{length-fresh_tasks}
 use Rattle.replay_engine.proofs.HeaderLaws.{header_irqs}
-use Rattle.replay_engine.proofs.StartLaws.{as_many, length_orders, started_whole, started_places}
+use Rattle.replay_engine.proofs.StartLaws.{as_many, length_task_plans, started_whole, started_places}
 use Rattle.replay_engine.proofs.StartLaws.{started_facts, within_none, lone_firsts}
 use Rattle.replay_engine.proofs.engine.Engine.start.Goals as goal
 
-pub orders_of-requires-clause-irqs : goal.orders_of-requires-clause-irqs
-orders_of-requires-clause-irqs c =
+pub task_plans_of-requires-clause-irqs : goal.task_plans_of-requires-clause-irqs
+task_plans_of-requires-clause-irqs c =
     let h = c.args.header in
     header_irqs (length h.tasks) h.irqs c.requires.header.irqs c.requires.header.order
 
@@ -30,19 +30,19 @@ invariant_of-result c =
       harts = h.harts;
       layout = c.layout_of-layout.result;
       tasks =
-          c.in_ok-orders.orders.items;
+          c.in_ok-plans.plans.items;
     } in
     let same : plan ≡ plan_of h =
     ap (λ (l : LayoutWords). record {
       harts = h.harts;
       layout = l;
-      tasks = c.in_ok-orders.orders.items;
+      tasks = c.in_ok-plans.plans.items;
     }) c.layout_of-layout.ensures
-    ∙ ap (λ (os : List Orders). record {
+    ∙ ap (λ (os : List TaskPlan). record {
       harts = h.harts;
       layout = record { sample_type = h.layout; branch = h.branch };
       tasks = os;
-    }) c.in_ok-orders.ensures in
+    }) c.in_ok-plans.ensures in
     subst (λ (p : Plan). IsEngine (record {
       plan = p;
       tasks = c.in_ok-tasks.tasks;
@@ -63,10 +63,10 @@ returns-clause-stands c =
       harts = h.harts;
       layout = c.layout_of-layout.result;
       tasks =
-          c.in_ok-orders.orders.items;
+          c.in_ok-plans.plans.items;
     } in
-    let size : length c.in_ok-orders.orders.items ≡ length (fresh_tasks h.tasks c.args.mems) =
-    ap length c.in_ok-orders.ensures ∙ length_orders 0 h.tasks h.irqs
+    let size : length c.in_ok-plans.plans.items ≡ length (fresh_tasks h.tasks c.args.mems) =
+    ap length c.in_ok-plans.ensures ∙ length_task_plans 0 h.tasks h.irqs
     ∙ sym (length-fresh_tasks h.tasks c.args.mems
     (sym (as_many h.tasks c.args.mems c.requires.mems))) in
     subst (λ (ts : List TaskState). StandsFor plan (present_states ts fresh_harts)
@@ -80,10 +80,10 @@ returns-clause-places c =
       harts = h.harts;
       layout = c.layout_of-layout.result;
       tasks =
-          c.in_ok-orders.orders.items;
+          c.in_ok-plans.plans.items;
     } in
-    let size : length c.in_ok-orders.orders.items ≡ length (fresh_tasks h.tasks c.args.mems) =
-    ap length c.in_ok-orders.ensures ∙ length_orders 0 h.tasks h.irqs
+    let size : length c.in_ok-plans.plans.items ≡ length (fresh_tasks h.tasks c.args.mems) =
+    ap length c.in_ok-plans.ensures ∙ length_task_plans 0 h.tasks h.irqs
     ∙ sym (length-fresh_tasks h.tasks c.args.mems
     (sym (as_many h.tasks c.args.mems c.requires.mems))) in
     subst (λ (ts : List TaskState). PlacesAgree ts fresh_harts) (sym c.in_ok-tasks.ensures)
