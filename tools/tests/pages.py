@@ -89,6 +89,11 @@ class Pages(cases.Case):
                     printed += said.decode() + output.decode()
         return printed, told
 
+    def test_definitions(self):
+        """The list of definitions is what the sources give."""
+        status, _, said = cases.run([os.path.join(cases.TOP, "docs", "definitions.py"), "--check"])
+        self.assertEqual((status, said), (0, b""))
+
     def test_links(self):
         """Every link of every page that isn't to another site leads to a file or a folder."""
         pages, missing = 0, []

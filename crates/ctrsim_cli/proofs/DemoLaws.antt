@@ -1,42 +1,35 @@
 -- The schedule of `demo`: its tasks, and its turns, each of which may be performed.
-use Rattle.std.proofs.Common.{◌≡◌, refl, sym, ap, ◌∙◌, subst, arith, ℕ, zero, suc, ◌+◌, ◌*◌, ◌/◌, ◌%◌, ◌^◌, ◌≤◌}
-use Rattle.std.proofs.Common.{List, [], ◌∷◌, ◌++◌, length, replicate, add-one, append_assoc, true, false, nat_lt, nat_eq}
-use Rattle.std.specs.Prelude.{Some, None, Err}
-use Rattle.std.proofs.Common.{length-append, All, map}
+use Rattle.std.proofs.Common.{◌≡◌, refl, sym, ap, ◌∙◌, arith, ℕ, zero, suc, ◌+◌, ◌*◌, ◌/◌, ◌%◌, ◌<◌}
+use Rattle.std.proofs.Common.{List, [], ◌∷◌, ◌++◌, length, replicate, add-one, append_assoc, true, nat_lt, nat_eq}
+use Rattle.std.specs.Prelude.{Some, None, Ok, Err}
+use Rattle.std.proofs.Common.{length-append, All}
 use Rattle.std.proofs.lemmas.List.{length-replicate}
-use Rattle.std.proofs.lemmas.List.Elements.{All-push, All-nil}
+use Rattle.std.proofs.lemmas.List.Elements.{All-push, All-nil, All-cons}
 use Rattle.std.proofs.lemmas.Grind.{fold-append}
 use Rattle.std.proofs.lemmas.Option.{none-some}
 use Rattle.ctr_port.specs.Counts.{HasCause}
+use Rattle.replay_engine.specs.HartSet.{GoesOn}
 use Rattle.replay_engine.specs.Outcome.{is_write_fault}
-use Rattle.replay_engine.specs.Refusals.{refusal_after}
+use Rattle.replay_engine.specs.Refusals.{command_refusal}
 use Rattle.replay_engine.specs.Stands.{place_after, place_next}
-use Rattle.replay_engine.specs.StandsAfter.{StandsAfter}
-use Rattle.replay_engine.specs.Start.{plan_of, memories, AreMemories, fresh_engine, first_present, tasks_of_lines}
-use Rattle.sched_text.specs.declared.schedule.Header.{Header}
-use Rattle.replay_engine.specs.Tasks.{TaskState, PresentState}
+use Rattle.replay_engine.specs.Start.{plan_of, memories, AreMemories}
+use Rattle.replay_engine.specs.Tasks.{PresentState}
 use Rattle.replay_engine.specs.View.{Plan}
 use Rattle.replay_engine.specs.declared.fault.PerformFault.{PerformFault}
 use Rattle.replay_engine.specs.declared.fault.PerformFault.TheVariants.{NoTask, NoHart, NotResident, EmptyHart, Write}
+use Rattle.rv_hart.specs.Facts.{AreBytes}
 use Rattle.rv_hart.specs.Hart.{HartState}
 use Rattle.rv_hart.specs.Memory.{memory_of}
 use Rattle.sched_text.specs.Header.{IsHeader}
 use Rattle.sched_text.specs.Irqs.{IsIrq, follow_on}
 use Rattle.sched_text.specs.Rows.{IsTask}
 use Rattle.sched_text.specs.declared.schedule.Command.{Command}
-use Rattle.replay_engine.specs.Counts.{CountsWithin, HasRoom}
-use Rattle.replay_engine.specs.Engine.{EngineState}
-use Rattle.replay_engine.specs.Laws.{SamplesJoin, CountsLoosen}
-use Rattle.replay_engine.specs.Runs.{spellings}
-use Rattle.replay_engine.specs.Stands.{StandsFor, scheduled_samples, scheduled_of}
-use Rattle.replay_engine.specs.StandsAfter.{StandsForMore}
-use Rattle.replay_engine.specs.Tasks.{PlacesAgree, present_states}
-use Rattle.replay_engine.specs.View.{view_of}
-use Rattle.rv_hart.specs.Hart.{fresh_harts}
+use Rattle.sched_text.specs.declared.schedule.Header.{Header}
 use Rattle.ctrsim_cli.specs.declared.counting.Counter.{Counter}
 use Rattle.ctrsim_cli.specs.Counted.{none_counted, counted, counted_then}
-use Rattle.ctrsim_cli.specs.Parts.{IsReady, Made, demo_first}
-use Rattle.ctrsim_cli.proofs.PerformLaws.{bytes_more}
+use Rattle.ctrsim_cli.specs.Parts.{first_states, Made}
+use Rattle.ctrsim_cli.specs.Schedule.{IsSchedule, output_of, HartsAreOf}
+use Rattle.ctrsim_cli.proofs.ChainLaws.{Follows, PerformedBy, CommandsGoOn, HartsAreTold, chain_more, chain_goes_on}
 use Rattle.ctrsim_cli.proofs.Images.{memories_more}
 use Rattle.ctrsim_cli.specs.Demo.{demo_image, demo_line, demo_lines, demo_header, demo_schedule, turns, run_of_turn, sample_of_turn}
 
@@ -49,7 +42,7 @@ turns_more n = rw (add-one n) (sym (append_assoc (turns n) (run_of_turn n ∷ []
 abbrev pub plan : Plan
 plan = plan_of demo_header
 
-pub run_allowed : (cs : List Command) (i : ℕ) → refusal_after plan cs (run_of_turn i) ≡ None
+pub run_allowed : (cs : List Command) (i : ℕ) → command_refusal plan cs (run_of_turn i) ≡ None
 run_allowed cs i =
     let task : nat_lt (i % 8) 8 ≡ true = grind arith in
     let hart : nat_lt ((i + i / 8) % 4) 4 ≡ true = grind arith in
@@ -60,19 +53,24 @@ placed cs i =
     let same : nat_eq (i % 8) (i % 8) ≡ true = grind arith in
     fold-append (place_next (i % 8)) None cs (run_of_turn i ∷ []) ∙ rw (same) refl
 
-pub sample_allowed : (cs : List Command) (i : ℕ) → refusal_after plan (cs ++ run_of_turn i ∷ []) (sample_of_turn i) ≡ None
+pub sample_allowed : (cs : List Command) (i : ℕ) → command_refusal plan (cs ++ run_of_turn i ∷ []) (sample_of_turn i) ≡ None
 sample_allowed cs i =
     let task : nat_lt (i % 8) 8 ≡ true = grind arith in
     rw (task, placed cs i) refl
 
 -- a command that may be performed is, into a sink whose count of faults stays 0
-pub never : {A K : Type 0} (gained : K → List ℕ → K → Type 0) (old new : K) (p : Plan) (first : List PresentState) (cs : List Command) (ts : List TaskState) (hs : List HartState) (c : Command) (f : PerformFault)
-    → refusal_after p cs c ≡ None → StandsAfter gained old new p first cs ts hs c (Err f) → HasCause {T = Unit {0}} is_write_fault 0 0 (Err f) → A
-never gained old new p first cs ts hs c NoTask fits e cause = absurd (none-some NoTask (sym fits ∙ e))
-never gained old new p first cs ts hs c NoHart fits e cause = absurd (none-some NoHart (sym fits ∙ e))
-never gained old new p first cs ts hs c NotResident fits e cause = absurd (none-some NotResident (sym fits ∙ e))
-never gained old new p first cs ts hs c EmptyHart fits e cause = absurd (none-some EmptyHart (sym fits ∙ e))
-never gained old new p first cs ts hs c Write fits e cause = absurd (omega (arith, cause.1))
+pub never : {A E H : Type 0} (follows : Follows E H) (tells : H → Type 0) (held : H → List HartState) (h : Header) (images : List (List ℕ)) (cs : List Command) (c : Command) (bytes : List ℕ) (a : H) (f : E) (b : H) (why : PerformFault)
+    → command_refusal (plan_of h) cs c ≡ None → GoesOn follows tells held h images cs c bytes a f b (Err why) → HasCause {T = Unit {0}} is_write_fault 0 0 (Err why) → A
+never follows tells held h images cs c bytes a f b NoTask fits e cause = absurd (none-some NoTask (sym fits ∙ e.refused))
+never follows tells held h images cs c bytes a f b NoHart fits e cause = absurd (none-some NoHart (sym fits ∙ e.refused))
+never follows tells held h images cs c bytes a f b NotResident fits e cause = absurd (none-some NotResident (sym fits ∙ e.refused))
+never follows tells held h images cs c bytes a f b EmptyHart fits e cause = absurd (none-some EmptyHart (sym fits ∙ e.refused))
+never follows tells held h images cs c bytes a f b Write fits e cause = absurd (omega (arith, cause.1))
+
+-- two commands a turn
+pub turns_length : (n : ℕ) → length (turns n) ≡ 2 * n
+turns_length zero = refl
+turns_length (suc n) = omega (arith, length-append (turns n) (run_of_turn n ∷ sample_of_turn n ∷ []), turns_length n)
 
 demo_lines_length : (n : ℕ) → length (demo_lines n) ≡ n
 demo_lines_length zero = refl
@@ -117,58 +115,51 @@ demo_is_header = record {
 }
 
 abbrev pub first : List PresentState
-first = demo_first
+first = first_states (demo_schedule 0)
 
--- before the first turn
-pub made_none : (e : EngineState) (hs : List HartState) (c : Counter) → IsReady (demo_schedule 0) e → hs ≡ fresh_harts → c ≡ none_counted → Made [] 0 e hs c
-made_none e hs c r fresh none = record {
-  plan = r.plan;
-  whole = r.whole;
-  places = subst (PlacesAgree e.tasks) (sym fresh) r.places;
-  stands = subst (λ (ys : List HartState). StandsFor plan first [] e.tasks ys) (sym fresh)
-      (subst (λ (p : Plan). StandsFor p first [] e.tasks fresh_harts) r.plan (subst (λ (ps : List PresentState). StandsFor e.plan ps [] e.tasks fresh_harts) r.first r.stands));
-  counts = subst (λ (ys : List HartState). CountsWithin 0 0 0 (view_of e.tasks ys)) (sym fresh) r.counts;
-  counted = none;
-}
+abbrev pub images : List (List ℕ)
+images = replicate 8 demo_image
 
 -- one command more
-pub made_more : SamplesJoin → (cs : List Command) (n : ℕ) (e e' : EngineState) (hs hs' : List HartState) (k k' : Counter) (c : Command) → Made cs n e hs k
-    → e'.plan ≡ e.plan → e'.broken ≡ false → PlacesAgree e'.tasks hs'
-    → CountsWithin (2 ^ 40 * n + 2 ^ 40) (1000000000 * n + 1000000000) (1000000000 * n + 1000000000) (view_of e'.tasks hs')
-    → (StandsFor e.plan first cs e.tasks hs → StandsForMore (λ a x b. b ≡ counted a x) k k' e.plan first cs e'.tasks hs' c) → Made (cs ++ c ∷ []) (n + 1) e' hs' k'
-made_more samples cs n e e' hs hs' k k' c m same whole places counts done =
-    let q = subst (λ (p : Plan). StandsForMore (λ a x b. b ≡ counted a x) k k' p first cs e'.tasks hs' c) m.plan (done (subst (λ (p : Plan). StandsFor p first cs e.tasks hs) (sym m.plan) m.stands)) in
-    record {
-      plan = same ∙ m.plan;
-      whole = whole;
-      places = places;
-      stands = q.stands;
-      counts = subst (λ (j : ℕ). CountsWithin j (1000000000 * (n + 1)) (1000000000 * (n + 1)) (view_of e'.tasks hs')) (omega arith)
-          (subst (λ (j : ℕ). CountsWithin (2 ^ 40 * n + 2 ^ 40) j j (view_of e'.tasks hs')) (omega arith) counts);
-      counted = counted_then none_counted k k' (spellings plan.layout (scheduled_samples plan first cs)) (spellings plan.layout (scheduled_of plan first cs c)) m.counted q.written
-          ∙ ap (counted none_counted) (sym (bytes_more samples plan first cs c));
-    }
+pub made_more : {E H : Type 0} (follows : Follows E H) (performed : PerformedBy E H) (tells : H → Type 0) (held : H → List HartState) → CommandsGoOn follows performed tells held → (e : E) (a : H) (d f : E) (m b : H) (k k' : Counter) (cs : List Command) (c : Command) (bytes : List ℕ)
+    → Made follows performed e a cs d m k → performed d m c (Ok tt) bytes f b → k' ≡ counted k bytes → Made follows performed e a (cs ++ c ∷ []) f b k'
+made_more follows performed tells held law e a d f m b k k' cs c bytes p done wrote = record {
+  bytes = p.bytes ++ bytes;
+  chain = chain_more performed cs c e d f a m b p.bytes bytes p.chain done;
+  going = (law demo_header images cs d f m b c (Ok tt) bytes p.going done).next;
+  counted = counted_then none_counted k k' p.bytes bytes p.counted wrote;
+}
 
--- there is room for so many commands
-pub room : CountsLoosen → (cs : List Command) (n : ℕ) (e : EngineState) (hs : List HartState) (k : Counter) → n ≤ 200001 → Made cs n e hs k → HasRoom (2 ^ 61) (view_of e.tasks hs)
-room loosen cs n e hs k few m =
-    loosen (2 ^ 40 * n) (2 ^ 61) (1000000000 * n) (2 ^ 61) (1000000000 * n) (2 ^ 61) (view_of e.tasks hs) (omega (arith, few)) (omega (arith, few)) (omega (arith, few)) m.counts
+pub image_bytes : AreBytes demo_image
+image_bytes =
+    one 239 (0 ∷ 128 ∷ 0 ∷ 19 ∷ 0 ∷ 0 ∷ 0 ∷ 103 ∷ 128 ∷ 0 ∷ 0 ∷ []) (omega arith) (
+    one 0 (128 ∷ 0 ∷ 19 ∷ 0 ∷ 0 ∷ 0 ∷ 103 ∷ 128 ∷ 0 ∷ 0 ∷ []) (omega arith) (
+    one 128 (0 ∷ 19 ∷ 0 ∷ 0 ∷ 0 ∷ 103 ∷ 128 ∷ 0 ∷ 0 ∷ []) (omega arith) (
+    one 0 (19 ∷ 0 ∷ 0 ∷ 0 ∷ 103 ∷ 128 ∷ 0 ∷ 0 ∷ []) (omega arith) (
+    one 19 (0 ∷ 0 ∷ 0 ∷ 103 ∷ 128 ∷ 0 ∷ 0 ∷ []) (omega arith) (
+    one 0 (0 ∷ 0 ∷ 103 ∷ 128 ∷ 0 ∷ 0 ∷ []) (omega arith) (
+    one 0 (0 ∷ 103 ∷ 128 ∷ 0 ∷ 0 ∷ []) (omega arith) (
+    one 0 (103 ∷ 128 ∷ 0 ∷ 0 ∷ []) (omega arith) (
+    one 103 (128 ∷ 0 ∷ 0 ∷ []) (omega arith) (
+    one 128 (0 ∷ 0 ∷ []) (omega arith) (
+    one 0 (0 ∷ []) (omega arith) (
+    one 0 ([]) (omega arith) (
+    All-nil (λ (n : ℕ). n < 256)))))))))))))
+  where
+    one : (b : ℕ) (bs : List ℕ) → b < 256 → AreBytes bs → AreBytes (b ∷ bs)
+    one b bs small are = All-cons (λ (n : ℕ). n < 256) b bs small are
 
--- an engine that was started on the schedule of `demo`
-pub ready : (h : Header) (mems : List (List ℕ)) (e : EngineState) → h ≡ demo_header → mems ≡ memories (demo_lines 8) (replicate 8 demo_image)
-    → e ≡ fresh_engine h mems → StandsFor e.plan (present_states e.tasks fresh_harts) [] e.tasks fresh_harts → PlacesAgree e.tasks fresh_harts → CountsWithin 0 0 0 (view_of e.tasks fresh_harts)
-    → ((images : List (List ℕ)) → mems ≡ memories h.tasks images → present_states e.tasks fresh_harts ≡ map first_present (tasks_of_lines 0 h.tasks images h.irqs)) → IsReady (demo_schedule 0) e
-ready h mems e header are made stands places counts lone =
-    let plan_is : e.plan ≡ plan = ap (λ (x : EngineState). x.plan) made ∙ ap plan_of header in
-    record {
-      none = refl;
-      size = refl;
-      plan = plan_is;
-      first = lone (replicate 8 demo_image) (are ∙ ap (λ (x : Header). memories x.tasks (replicate 8 demo_image)) (sym header))
-          ∙ ap (λ (x : Header). map first_present (tasks_of_lines 0 x.tasks (replicate 8 demo_image) x.irqs)) header;
-      few = subst (λ (p : Plan). p.harts ≤ 16) (sym plan_is) (omega arith);
-      whole = ap (λ (x : EngineState). x.broken) made;
-      stands = stands;
-      places = places;
-      counts = counts;
-    }
+demo_bytes : (n : ℕ) → All AreBytes (replicate n demo_image)
+demo_bytes zero = All-nil AreBytes
+demo_bytes (suc n) = All-cons AreBytes demo_image (replicate n demo_image) image_bytes (demo_bytes n)
+
+pub demo_is_schedule : IsSchedule (demo_schedule 0)
+demo_is_schedule = record { header = demo_is_header; size = refl; bytes = demo_bytes 8; allowed = tt }
+
+-- of harts that tell what they hold, the bytes that were read in the turns are those of their samples
+pub turns_are : {E H : Type 0} (follows : Follows E H) (performed : PerformedBy E H) (tells : H → Type 0) (held : H → List HartState) → CommandsGoOn follows performed tells held → HartsAreTold follows tells held → (n : ℕ) (e f : E) (a b : H) (k : Counter)
+    → follows demo_header images [] e a → tells a → Made follows performed e a (turns n) f b k → (k ≡ counted none_counted (output_of (demo_schedule n))) × HartsAreOf (demo_schedule n) (held b)
+turns_are follows performed tells held law lone n e f a b k begun told p =
+    let r = chain_goes_on follows performed tells held law demo_header images [] (turns n) e f a b p.bytes begun p.chain in
+    let s = r.2 told in
+    (p.counted ∙ ap (counted none_counted) s.1, lone demo_header images (turns n) f b r.1 s.0)

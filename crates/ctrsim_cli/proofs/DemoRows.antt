@@ -1,15 +1,14 @@
 -- The lines of `demo`, read back.
-use Rattle.std.proofs.Common.{◌≡◌, ◌≢◌, refl, sym, ap, ◌∙◌, subst, arith, ℕ, zero, suc, ◌+◌, ◌-◌, ◌*◌, ◌/◌, ◌%◌, ◌^◌, ◌<◌, ◌≤◌, min}
-use Rattle.std.proofs.Common.{List, [], ◌∷◌, ◌++◌, length, take, drop, Bool, true, false, not, ◌&&◌, nat_eq, nat_lt, nat_le, cond, append-nil, append_assoc, length-append}
-use Rattle.std.specs.Prelude.{Result, Ok, Err, Option, Some, None, codes, get_or}
+use Rattle.std.proofs.Common.{◌≡◌, refl, sym, ap, ◌∙◌, arith, ℕ, zero, suc, ◌+◌, ◌*◌, ◌/◌, ◌%◌, ◌^◌, ◌<◌, ◌≤◌, min}
+use Rattle.std.proofs.Common.{List, [], ◌∷◌, ◌++◌, length, take, drop, Bool, true, false, ◌&&◌, nat_eq, nat_lt, nat_le, append-nil, length-append}
+use Rattle.std.specs.Prelude.{Ok, Some, codes}
 use Rattle.std.specs.List.{list_all, position_or_len}
 use Rattle.std.proofs.Math.Seq.{take-append_seam, drop-append-add}
 use Rattle.std.proofs.lemmas.List.Folds.{list_all-append}
-use Rattle.sched_text.specs.Lines.{LineCut, Line, put_front, line_within, line_at, is_space, words, word}
+use Rattle.sched_text.specs.Lines.{Line, put_front, line_within, line_at, is_space, words}
 use Rattle.sched_text.specs.Numbers.{digit_value, number, kept}
 use Rattle.sched_text.specs.Rows.{command_of}
-use Rattle.sched_text.specs.declared.schedule.Command.{Command}
-use Rattle.sched_text.specs.declared.schedule.Command.TheVariants.{Run, Sample as Sampled, Evict, End}
+use Rattle.sched_text.specs.declared.schedule.Command.TheVariants.{Run, Sample as Sampled}
 use Rattle.sched_text.proofs.WordLaws.{words_whole, words_first}
 use Rattle.ctrsim_cli.specs.SampleText.{dec}
 use Rattle.ctrsim_cli.specs.Demo.{run_row, sample_row}

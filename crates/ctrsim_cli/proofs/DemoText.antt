@@ -1,33 +1,31 @@
 -- The text of `demo` is accepted as its schedule.
-use Rattle.std.proofs.Common.{◌≡◌, ◌≢◌, refl, sym, ap, ◌∙◌, subst, arith, ℕ, zero, suc, ◌+◌, ◌*◌, ◌/◌, ◌%◌, ◌^◌, ◌<◌, ◌≤◌}
-use Rattle.std.proofs.Common.{List, [], ◌∷◌, ◌++◌, length, take, drop, replicate, Bool, true, false, nat_lt, nat_le, nat_eq, append_assoc, length-append, All, map}
-use Rattle.std.specs.Prelude.{Result, Ok, Err, Option, Some, None, slice_get, codes, get_or}
-use Rattle.std.specs.List.{flat_map, list_all}
+use Rattle.std.proofs.Common.{◌≡◌, ◌≢◌, refl, sym, ap, ◌∙◌, subst, arith, ℕ, zero, suc, ◌+◌, ◌*◌, ◌/◌, ◌%◌, ◌<◌, ◌≤◌}
+use Rattle.std.proofs.Common.{List, [], ◌∷◌, ◌++◌, length, replicate, true, false, nat_lt, nat_le, append_assoc, length-append, All, map}
+use Rattle.std.specs.Prelude.{Result, Ok, Err, Some, slice_get, codes}
+use Rattle.std.specs.List.{flat_map}
 use Rattle.std.proofs.lemmas.Bool.{or_from}
-use Rattle.std.proofs.lemmas.List.Elements.{All-nil, All-cons, All-append, All-from_get_or}
+use Rattle.std.proofs.lemmas.List.Elements.{All-nil, All-cons, All-append}
 use Rattle.std.proofs.lemmas.List.{map-append}
 use Rattle.std.proofs.lemmas.Option.{none-some, same_Some}
 use Rattle.std.specs.Result.{is_ok}
 use Rattle.replay_engine.specs.Breaks.{AreAllowed}
-use Rattle.replay_engine.specs.Start.{plan_of}
-use Rattle.sched_text.specs.Commands.{is_end, command_at, command_cut, command_row, counted_at, commands_after}
-use Rattle.sched_text.specs.Grammar.{IsLine, spelled, IsFront, AreRows, AreHeaderRows, IsGrammatical}
+use Rattle.sched_text.specs.Commands.{is_end, command_at, command_cut, command_row, commands_after}
+use Rattle.sched_text.specs.Grammar.{IsLine}
 use Rattle.sched_text.specs.Header.{HasHeader}
 use Rattle.sched_text.specs.Lines.{Line, line_at}
-use Rattle.sched_text.specs.Outcomes.{total, IsBehind, IsImage, FirstCommands}
+use Rattle.sched_text.specs.Outcomes.{IsImage}
 use Rattle.sched_text.specs.Rows.{command_of, task_of, version_of}
 use Rattle.sched_text.specs.declared.faults.Reason.{Reason}
 use Rattle.sched_text.specs.declared.schedule.TaskLine.{TaskLine}
 use Rattle.sched_text.specs.Text.{has_end}
 use Rattle.sched_text.specs.declared.schedule.Command.{Command}
-use Rattle.sched_text.specs.declared.schedule.Command.TheVariants.{Run, Sample as Sampled, Evict, End}
 use Rattle.sched_text.proofs.FrontLaws.{end_more}
 use Rattle.sched_text.proofs.GrammarSteps.{is_read}
-use Rattle.ctrsim_cli.specs.Demo.{demo_image, demo_line, demo_lines, demo_header, demo_schedule, run_of_turn, sample_of_turn, turns, line, task_row, task_rows, header_rows, run_row, sample_row, turn_text, turns_text, demo_text}
+use Rattle.ctrsim_cli.specs.Demo.{demo_image, demo_line, demo_lines, demo_header, run_of_turn, sample_of_turn, turns, line, task_row, task_rows, header_rows, run_row, sample_row, turn_text, turns_text, demo_text}
 use Rattle.ctrsim_cli.specs.Laws.{DemoIsAccepted}
-use Rattle.ctrsim_cli.specs.Parts.{HasImages, Begins}
+use Rattle.ctrsim_cli.specs.Parts.{Begins}
 use Rattle.ctrsim_cli.specs.SampleText.{dec}
-use Rattle.ctrsim_cli.proofs.DemoLaws.{plan, demo_is_header, run_allowed, sample_allowed, turns_more}
+use Rattle.ctrsim_cli.proofs.DemoLaws.{plan, demo_is_header, run_allowed, sample_allowed}
 use Rattle.ctrsim_cli.proofs.DemoRows.{from, short, parts, from_append, dec_one, run_read, sample_read, run_line, sample_line, line_of}
 use Rattle.ctrsim_cli.proofs.Endings.{accepted_as, reads_more}
 use Rattle.ctrsim_cli.proofs.PerformLaws.{allowed_more}

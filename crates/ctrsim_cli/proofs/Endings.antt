@@ -10,7 +10,7 @@ use Rattle.std.specs.Prelude.{Option, Some, None, Ok, Err, true}
 use Rattle.ctr_port.specs.InHand.{Of, text_of}
 use Rattle.ctr_port.proofs.InHand.{of_then}
 use Rattle.replay_engine.specs.Breaks.{AreAllowed, HasAllowed, reason_of}
-use Rattle.replay_engine.specs.Refusals.{refusal_after}
+use Rattle.replay_engine.specs.Refusals.{command_refusal}
 use Rattle.replay_engine.specs.Start.{plan_of}
 use Rattle.replay_engine.specs.declared.fault.PerformFault.{PerformFault}
 use Rattle.sched_text.specs.Commands.{command_row, command_cut, command_at, commands_after, next_command, with_command}
@@ -83,7 +83,7 @@ unfolding commands_after
 reads_more line count cs c m k rest given next = ap (next_command (line + suc count) count) given ∙ ap (with_command cs) (rw (add-one count) at next)
 
 abbrev pub has_more : (line count : ℕ) (h : Header) (images : List (List ℕ)) (cs : List Command) (c : Command) (t m k rest : List ℕ) → Begins line h images t m → commands_after count line m ≡ Ok (cs, k)
-    → command_at (line + (count + 1)) count k ≡ Ok (c, rest) → AreAllowed (plan_of h) cs → refusal_after (plan_of h) cs c ≡ None → HasAllowed t line (suc count) (cs ++ c ∷ []) rest
+    → command_at (line + (count + 1)) count k ≡ Ok (c, rest) → AreAllowed (plan_of h) cs → command_refusal (plan_of h) cs c ≡ None → HasAllowed t line (suc count) (cs ++ c ∷ []) rest
 has_more line count h images cs c t m k rest b given next allowed fits = record {
   has = has_commands line (suc count) h images (cs ++ c ∷ []) t m rest b (reads_more line count cs c m k rest given next);
   allowed = allowed_more (plan_of h) [] cs c allowed fits;
@@ -129,7 +129,7 @@ refused_by_text line count h images cs t m k f size b given allowed next = recor
 
 -- or because of what the commands before it left
 pub refused_by_place : (line count : ℕ) (h : Header) (images : List (List ℕ)) (cs : List Command) (t m k rest : List ℕ) (f : LineFault) (c : Command) (why : PerformFault) → length images ≡ length h.tasks → Begins line h images t m → FirstCommands line count cs m k
-    → AreAllowed (plan_of h) cs → command_at (line + (count + 1)) count k ≡ Ok (c, rest) → refusal_after (plan_of h) cs c ≡ Some why → reason_of why ≡ Some f.reason → f.line ≡ line + (count + 1) → IsRefusedAfter t (schedule h images cs) f
+    → AreAllowed (plan_of h) cs → command_at (line + (count + 1)) count k ≡ Ok (c, rest) → command_refusal (plan_of h) cs c ≡ Some why → reason_of why ≡ Some f.reason → f.line ≡ line + (count + 1) → IsRefusedAfter t (schedule h images cs) f
 refused_by_place line count h images cs t m k rest f c why size b given allowed next refused named number = record {
   refused = record {
     lines = line;
@@ -234,15 +234,17 @@ end_cut_off line n h images cs b b' m k size begins given allowed ends =
 
 -- the command whose sample failed
 pub taken_to : (line n : ℕ) (h : Header) (images : List (List ℕ)) (cs : List Command) (c : Command) (hand b b' m k : List ℕ) → length images ≡ length h.tasks → Begins line h images b m → FirstCommands line n cs m k
-    → AreAllowed (plan_of h) cs → refusal_after (plan_of h) cs c ≡ None → command_at (line + (n + 1)) n k ≡ Ok (c, hand ++ b') → length hand < 4096 → IsTakenTo b b' (schedule h images cs) c
+    → AreAllowed (plan_of h) cs → command_refusal (plan_of h) cs c ≡ None → command_at (line + (n + 1)) n k ≡ Ok (c, hand ++ b') → length hand < 4096 → IsTakenTo b b' (schedule h images cs) c
 taken_to line n h images cs c hand b b' m k size begins given allowed fits next near = record {
   lines = line;
   count = suc n;
   behind = hand ++ b';
+  ahead = hand;
+  left = refl;
   begins = has_more line n h images cs c b m k (hand ++ b') begins given.0 next allowed fits;
   header = refl;
   images = are_images line h images b m begins size;
-  near = omega (arith, length-append hand b', near);
+  near = near;
 }
 
 -- header and images, one call after another

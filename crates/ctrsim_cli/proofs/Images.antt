@@ -11,6 +11,8 @@ use Rattle.std.proofs.lemmas.Option.{none-some, same_Some}
 use Rattle.ctr_port.specs.InHand.{Of}
 use Rattle.ctr_port.proofs.InHand.{of_map, of_then}
 use Rattle.replay_engine.specs.Start.{AreMemories, memories, size_of, mem_of}
+use Rattle.std.proofs.lemmas.List.Elements.{All-nil, All-push}
+use Rattle.rv_hart.specs.Facts.{AreBytes}
 use Rattle.rv_hart.specs.Memory.{memory_of}
 use Rattle.sched_text.specs.Header.{refuse}
 use Rattle.sched_text.specs.Images.{image_at}
@@ -107,6 +109,7 @@ only_behind tasks images n a b has = of_map a b (HasImages tasks images n) (IsBe
 pub first_none : (tasks : List TaskLine) (mems : List (List ℕ)) (a : Option (List ℕ)) → mems ≡ [] → FirstMemories tasks 0 mems a a
 first_none tasks mems a none = record {
   images = [];
+  bytes = All-nil AreBytes;
   size = refl;
   are = none;
   sizes = ap (map size_of) none;
@@ -117,13 +120,14 @@ first_none tasks mems a none = record {
 pub one_more : (line i : ℕ) (d : TaskLine) (tasks : List TaskLine) (mems mems' : List (List ℕ)) (image : List ℕ) (a b c : Option (List ℕ))
     → i < length tasks → length image ≤ (get_or tasks i d).mem → FirstMemories tasks i mems a b
     → Of b c (λ t t'. image_at line (get_or tasks i d).image t ≡ Ok (image, t'))
-    → mems' ≡ mems ++ memory_of image (get_or tasks i d).mem ∷ [] → FirstMemories tasks (i + 1) mems' a c
-one_more line i d tasks mems mems' image a b c less fits f given made =
+    → mems' ≡ mems ++ memory_of image (get_or tasks i d).mem ∷ [] → AreBytes image → FirstMemories tasks (i + 1) mems' a c
+one_more line i d tasks mems mems' image a b c less fits f given made bytes =
     let l = get_or tasks i d in
     let more : take (i + 1) tasks ≡ take i tasks ++ l ∷ [] = take_more tasks i d less in
     let m = memory_of image l.mem in
     record {
       images = f.images ++ image ∷ [];
+      bytes = All-push AreBytes f.images image f.bytes bytes;
       size = omega (arith, length-append f.images (image ∷ []), f.size);
       are = made ∙ ap (λ (ms : List (List ℕ)). ms ++ m ∷ []) f.are
           ∙ sym (memories_more (take i tasks) f.images l image (omega (arith, f.size, length-take-le i tasks (omega (arith, less)))))
@@ -138,6 +142,7 @@ all_read tasks n mems a b is f =
     let all : take n tasks ≡ tasks = take_all n tasks (omega (arith, is)) in
     record {
       images = f.images;
+      bytes = f.bytes;
       size = f.size ∙ is;
       are = f.are ∙ ap (λ (ls : List TaskLine). memories ls f.images) all;
       sizes = subst (λ (ls : List TaskLine). AreMemories ls mems) all f.sizes;

@@ -8,12 +8,13 @@ mod BrokenTexts
 mod Images
 mod PerformLaws
 mod Endings
-mod CutLaws
+mod ChainLaws
 mod RunLaws
 mod CountLaws
 mod DemoLaws
 mod TopLaws
 mod SummaryLaws
+mod SteppedSchedules
 mod ScheduleLaws
 mod DemoRows
 mod DemoText

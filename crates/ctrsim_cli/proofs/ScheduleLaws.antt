@@ -1,31 +1,32 @@
 -- Laws of whole schedules.
 use Rattle.std.proofs.Common.{◌≡◌, refl, sym, ap, ◌∙◌, arith, ℕ, zero, suc, ◌+◌, ◌-◌, ◌<◌, List, [], ◌∷◌, ◌++◌}
-use Rattle.std.proofs.Common.{length, map, drop, append-nil, append_assoc, length-append, take-append-drop, All}
+use Rattle.std.proofs.Common.{length, drop, append-nil, append_assoc, length-append, take-append-drop, All}
 use Rattle.std.specs.Prelude.{Option, Some, None, slice_get}
 use Rattle.std.proofs.lemmas.List.{append_cancel_right, length-drop}
-use Rattle.std.proofs.lemmas.List.Elements.{All-nil, All-append}
+use Rattle.std.proofs.lemmas.List.Elements.{All-nil, All-append, All-weaker}
 use Rattle.std.proofs.lemmas.Grind.{flat_map-append}
 use Rattle.perf_sample.specs.Spelling.{spelling}
 use Rattle.perf_sample.specs.declared.sample.Sample.{Sample}
 use Rattle.replay_engine.specs.Breaks.{AcceptedOrBroken}
-use Rattle.replay_engine.specs.ByLine.{HeadersGiveTasks}
 use Rattle.replay_engine.specs.Laws.{SamplesJoin}
 use Rattle.replay_engine.specs.Runs.{present_after, due_sample, spellings}
 use Rattle.replay_engine.specs.Stands.{scheduled_samples, scheduled_from, scheduled_of, lone_samples, lone_run_samples, own_steps}
-use Rattle.replay_engine.specs.Start.{plan_of, first_present}
+use Rattle.replay_engine.specs.Scheduled.{IsSampleOf, SamplesAreLone, SamplesAreGiven, command_samples, samples_from}
+use Rattle.replay_engine.specs.Start.{plan_of}
 use Rattle.replay_engine.specs.Tasks.{PresentState}
 use Rattle.replay_engine.specs.View.{Plan, subject_of}
-use Rattle.replay_engine.specs.Visible.{IsLoneSample, IsPlanOf, SamplesAreLone}
 use Rattle.replay_engine.specs.declared.plan.Orders.{Orders}
 use Rattle.replay_engine.specs.declared.sampling.Subject.{Subject}
-use Rattle.rv_hart.specs.Task.{Irq, Task}
+use Rattle.rv_hart.specs.Task.{Irq}
 use Rattle.sched_text.specs.declared.schedule.Command.{Command}
 use Rattle.sched_text.specs.declared.schedule.Command.TheVariants.{Run, Sample as Sampled, Evict, End}
 use Rattle.sched_text.specs.declared.schedule.Header.{Header}
 use Rattle.sched_text.proofs.OneLaws.{one_of_each}
-use Rattle.ctrsim_cli.specs.Laws.{AcceptedAsOne, SamplesAreOfLoneRuns, WrittenIsPrefix}
-use Rattle.ctrsim_cli.specs.RunEnds.{AreMade}
-use Rattle.ctrsim_cli.specs.Schedule.{tasks_of, first_states}
+use Rattle.ctrsim_cli.specs.Laws.{AcceptedAsOne, IsScheduledSample, SamplesAreOfLoneRuns, WrittenIsPrefix}
+use Rattle.replay_engine.specs.HartSet.{AreMade}
+use Rattle.ctrsim_cli.specs.Parts.{first_states}
+use Rattle.ctrsim_cli.specs.Schedule.{Schedule, IsSchedule, followed_by}
+use Rattle.ctrsim_cli.proofs.SteppedSchedules.{same_samples, same_output}
 use Rattle.ctrsim_cli.proofs.PerformLaws.{samples_more}
 
 -- lists that have the same items
@@ -49,14 +50,19 @@ accepted_as_one breaks text s t a b =
     ∙ ap (λ (is : List (List ℕ)). record { header = t.header; images = is; commands = s.commands }) images
     ∙ ap (λ (cs : List Command). record { header = t.header; images = t.images; commands = cs }) commands
 
-all_lone : SamplesAreLone → (plan : Plan) (tasks : List Task) → IsPlanOf tasks plan → (before cs : List Command) → All (IsLoneSample tasks) (scheduled_from plan (map first_present tasks) before cs)
-all_lone lone plan tasks is before [] = All-nil (IsLoneSample tasks)
-all_lone lone plan tasks is before (c ∷ cs) =
-    let first = map first_present tasks in
-    All-append (IsLoneSample tasks) (scheduled_of plan first before c) (scheduled_from plan first (before ++ c ∷ []) cs) (lone plan tasks before c is) (all_lone lone plan tasks is (before ++ c ∷ []) cs)
+from_here : (s : Schedule) → SamplesAreGiven → IsSchedule s → (before cs : List Command) → s.commands ≡ before ++ cs
+    → All (IsScheduledSample s) (samples_from s.header s.images before cs)
+from_here s given is before [] are = All-nil (IsScheduledSample s)
+from_here s given is before (c ∷ cs) are =
+    let next = before ++ c ∷ [] in
+    All-append (IsScheduledSample s) (command_samples s.header s.images before c) (samples_from s.header s.images next cs)
+    (All-weaker (IsSampleOf s.header s.images before c) (IsScheduledSample s) (λ x p. record { before = before; command = c; later = cs; are = are; is = p })
+    (command_samples s.header s.images before c)
+    (given s.header s.images before c is.header is.bytes))
+    (from_here s given is next cs (are ∙ sym (append_assoc before (c ∷ []) cs)))
 
-pub of_lone_runs : SamplesAreLone → HeadersGiveTasks → SamplesAreOfLoneRuns
-of_lone_runs lone give s size = all_lone lone (plan_of s.header) (tasks_of s) (give s.header s.images size).planned [] s.commands
+pub of_lone_runs : SamplesAreGiven → SamplesAreOfLoneRuns
+of_lone_runs given s is = from_here s given is [] s.commands refl
 
 -- fewer steps give the first samples of more
 fewer : (s : Subject) (irqs : List Irq) (m j d : ℕ) (p : PresentState) → (more : List Sample) × (lone_samples s irqs m (j + d) p ≡ lone_samples s irqs m j p ++ more)
@@ -88,8 +94,8 @@ made_fewer plan first cs (Sampled t) made before (is, was) = ([], ap (scheduled_
 made_fewer plan first cs (Evict h) made before are = absurd are
 made_fewer plan first cs End made before are = absurd are
 
-pub written_is_prefix : SamplesJoin → WrittenIsPrefix
-written_is_prefix joins s c made before rest failed last are is cut =
+pub written_is_prefix : SamplesJoin → SamplesAreLone → WrittenIsPrefix
+written_is_prefix joins lone s c made before rest failed last are is cut =
     let plan = plan_of s.header in
     let first = first_states s in
     let cs = s.commands in
@@ -105,7 +111,9 @@ written_is_prefix joins s c made before rest failed last are is cut =
     ∙ ap (λ (xs : List Sample). all ++ (xs ++ later)) r.1
     ∙ ap (λ (xs : List Sample). all ++ xs) (append_assoc some r.0 later)
     ∙ sym (append_assoc all some next)
-    ∙ ap (λ (xs : List Sample). xs ++ next) (sym (samples_more joins plan first cs made) ∙ is) in
+    ∙ ap (λ (xs : List Sample). xs ++ next)
+    (sym (samples_more joins plan first cs made) ∙ same_samples lone (followed_by s (made ∷ [])) ∙ is
+    ∙ ap (λ (xs : List Sample). xs ++ failed ∷ []) (sym (same_samples lone (followed_by s before)))) in
     let bytes = spelling layout failed in
     let m = cut.0 in
     let left = drop m bytes in
@@ -117,5 +125,6 @@ written_is_prefix joins s c made before rest failed last are is cut =
     ∙ append_assoc (spellings layout old ++ last) left (spellings layout next) in (
       more,
       omega (arith, cut.1, length-drop m bytes, length-append left (spellings layout next)),
-      ap (spellings layout) whole ∙ joined,
+      sym (same_output lone (followed_by s (c ∷ rest))) ∙ ap (spellings layout) whole ∙ joined
+          ∙ ap (λ (xs : List ℕ). (xs ++ last) ++ more) (same_output lone (followed_by s before)),
     )

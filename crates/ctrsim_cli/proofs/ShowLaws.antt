@@ -1,7 +1,7 @@
 -- What the end of `show` says of its words and its bytes.
 use Rattle.std.proofs.Common.{◌≡◌, ℕ, ◌+◌, ◌≤◌, List, [], ◌∷◌, ◌++◌, length}
 use Rattle.std.proofs.Common.{Option, Some, None, arith, refl, sym, ap, ◌∙◌, subst}
-use Rattle.std.proofs.Common.{length-append, false}
+use Rattle.std.proofs.Common.{length-append, false, get_or}
 use Rattle.std.proofs.lemmas.List.Elements.{All-head, All-tail}
 use Rattle.std.specs.declared.string.String.{String}
 use Rattle.ctr_port.specs.Counts.{Rose}
@@ -20,21 +20,35 @@ use Rattle.perf_sample.proofs.ExactLaws.{clash}
 use Rattle.ctrsim_cli.specs.declared.fault.Fault.{Fault}
 use Rattle.ctrsim_cli.specs.declared.fault.Fault.TheVariants.{Usage, ReadFault, WriteFault, Memory}
 use Rattle.ctrsim_cli.specs.declared.fault.Fault.TheVariants.{Line, Sample as BadSample}
-use Rattle.ctrsim_cli.specs.Fault.{status_of}
 use Rattle.ctrsim_cli.specs.Performed.{ReadCause, WriteCause}
 use Rattle.ctrsim_cli.specs.ShowEnds.{ShowEnds}
 use Rattle.ctrsim_cli.specs.Showing.{joined, AreSpelled, Refused}
-use Rattle.ctrsim_cli.specs.Words.{IsRun, IsShow, IsDemo}
+use Rattle.ctrsim_cli.specs.Words.{IsRun, IsShow, IsDemo, IsAsked, IsWithin}
+use Rattle.ctrsim_cli.specs.declared.words.Word.{Word}
+use Rattle.ctrsim_cli.specs.declared.words.Word.TheVariants.{Run, Show, Demo}
 use Rattle.perf_sample.proofs.OneSpelling.{one_spelling, samples_exact, spelled_some}
 use Rattle.ctrsim_cli.proofs.Longest.{joined_cons, joined_empty, cons_front, taken_told}
 use Rattle.ctrsim_cli.proofs.Shows.{One, joined_none}
 
--- words that ask to run don't ask to show, and what they ask to show is one layout
-pub run_or_show : {A : Type 0} (words : List (String A)) (layout : LayoutWords) → IsRun words
+-- words that ask for one thing don't ask for another
+run_or_show : {A : Type 0} (words : List (String A)) (layout : LayoutWords) → IsRun words
     → IsShow words layout → ⊥
 run_or_show [] layout run show = run
 run_or_show (word ∷ []) layout run show = show
 run_or_show (word ∷ (other ∷ words)) layout run show = run
+
+run_or_demo : {A : Type 0} (words : List (String A)) (turns : ℕ) → IsRun words → IsDemo words turns → ⊥
+run_or_demo [] turns run demo = run
+run_or_demo (word ∷ []) turns run demo = demo
+run_or_demo (word ∷ (other ∷ words)) turns run demo = run
+
+show_or_demo : {A : Type 0} (words : List (String A)) (layout : LayoutWords) (turns : ℕ) → IsShow words layout → IsDemo words turns → ⊥
+show_or_demo [] layout turns show demo = show
+show_or_demo (word ∷ []) layout turns show demo = show
+show_or_demo (word ∷ (number ∷ [])) layout turns show demo =
+    let first : 115 ≡ 100 = ap (λ (letters : List ℕ). get_or letters 0 0) (sym show.0 ∙ demo.0) in
+    absurd (omega (arith, first))
+show_or_demo (word ∷ (number ∷ (more ∷ words))) layout turns show demo = demo
 
 layout_is : (t t' b b' : ℕ) → t ≡ t' → b ≡ b'
     → ◌≡◌ {A = LayoutWords} (record { sample_type = t; branch = b }) (record { sample_type = t'; branch = b' })
@@ -42,7 +56,7 @@ layout_is t t' b b' et eb =
     ap (λ (x : ℕ). record { sample_type = x; branch = b }) et
     ∙ ap (λ (x : ℕ). record { sample_type = t'; branch = x }) eb
 
-pub one_layout : {A : Type 0} (words : List (String A)) (a b : LayoutWords) → IsShow words a
+one_layout : {A : Type 0} (words : List (String A)) (a b : LayoutWords) → IsShow words a
     → IsShow words b → a ≡ b
 one_layout [] a b p q = absurd p
 one_layout (word ∷ []) a b p q = absurd p
@@ -54,11 +68,34 @@ one_layout (word ∷ (hex ∷ (branch ∷ []))) a b p q =
     (p.1.0.value ∙ sym q.1.0.value) (p.2.0.value ∙ sym q.2.0.value)
 one_layout (word ∷ (hex ∷ (branch ∷ (more ∷ words)))) a b p q = absurd p
 
-pub one_number : {A : Type 0} (words : List (String A)) (m n : ℕ) → IsDemo words m → IsDemo words n → m ≡ n
+one_number : {A : Type 0} (words : List (String A)) (m n : ℕ) → IsDemo words m → IsDemo words n → m ≡ n
 one_number [] m n p q = absurd p
 one_number (word ∷ []) m n p q = absurd p
 one_number (word ∷ (number ∷ [])) m n p q = p.1.digits.value ∙ sym q.1.digits.value
 one_number (word ∷ (number ∷ (more ∷ words))) m n p q = absurd p
+
+-- so they ask for one thing
+pub one_word : {A : Type 0} (words : List (String A)) (a b : Word) → IsAsked words a → IsAsked words b → a ≡ b
+one_word words Run Run p q = refl
+one_word words Run (Show layout) p q = absurd (run_or_show words layout p q)
+one_word words Run (Demo turns) p q = absurd (run_or_demo words turns p q)
+one_word words (Show layout) Run p q = absurd (run_or_show words layout q p)
+one_word words (Show a) (Show b) p q = ap Show (one_layout words a b p q)
+one_word words (Show layout) (Demo turns) p q = absurd (show_or_demo words layout turns p q)
+one_word words (Demo turns) Run p q = absurd (run_or_demo words turns q p)
+one_word words (Demo turns) (Show layout) p q = absurd (show_or_demo words layout turns q p)
+one_word words (Demo a) (Demo b) p q = ap Demo (one_number words a b p q)
+
+few_turns : {A : Type 0} (words : List (String A)) (n : ℕ) → IsDemo words n → n ≤ 100000
+few_turns [] n demo = absurd demo
+few_turns (word ∷ []) n demo = absurd demo
+few_turns (word ∷ (number ∷ [])) n demo = demo.1.most
+few_turns (word ∷ (number ∷ (more ∷ rest))) n demo = absurd demo
+
+pub within_asked : {A : Type 0} (words : List (String A)) (word : Word) → IsAsked words word → IsWithin word
+within_asked words Run p = tt
+within_asked words (Show layout) p = tt
+within_asked words (Demo turns) p = few_turns words turns p
 
 -- what is left of a join of spellings behind some of them is the join of the others
 left_over : (layout : LayoutWords) (xs ys : List Sample) (rest : List ℕ) → AreSpelled layout xs
@@ -144,7 +181,7 @@ pub ends_shown : {K : Type 0} (gained : K → List ℕ → K → Type 0) (layout
     (fault : Option Fault) (ys : List Sample) → left ≡ Some (joined layout ys) → AreSpelled layout ys
     → length ys ≤ MAX_SAMPLES → ShowEnds gained layout left left' old new fault
     → ReadCause reads reads' fault → WriteCause writes writes' fault → (Rose reads reads' → ⊥)
-    → (Rose writes writes' → ⊥) → status_of fault ≡ 0
+    → (Rose writes writes' → ⊥) → fault ≡ None
 ends_shown gained layout left left' old new r r' w w' None ys is spelled few so read write kept sent =
     refl
 ends_shown gained layout left left' old new r r' w w' (Some Usage) ys is spelled few so read write

@@ -16,7 +16,7 @@ use Rattle.replay_engine.specs.Runs.{spellings}
 use Rattle.std.specs.Prelude.{Option, Some, None, slice_get, cond, replicate}
 use Rattle.std.proofs.lemmas.List.{length-map}
 use Rattle.std.proofs.lemmas.List.Sums.{length-filter, count_by-le-length}
-use Rattle.std.proofs.lemmas.List.Elements.{All-push, All-nil, All-cons, All-append}
+use Rattle.std.proofs.lemmas.List.Elements.{All-push, All-nil, All-append}
 use Rattle.std.proofs.lemmas.Option.{none-some, same_Some}
 use Rattle.ctr_buffer.specs.Entry.{valid_entries, is_valid}
 use Rattle.ctr_csrs.specs.Depths.{entries_of}
@@ -24,7 +24,7 @@ use Rattle.ctr_csrs.specs.declared.depth.Depth.{Depth}
 use Rattle.ctr_csrs.specs.declared.depth.Depth.TheVariants.{D16, D32, D64, D128, D256}
 use Rattle.replay_engine.specs.Laws.{PresentsAreSteps}
 use Rattle.replay_engine.specs.Runs.{present_after, is_due, due_sample}
-use Rattle.replay_engine.specs.Samples.{branch_of, sample_of}
+use Rattle.replay_engine.specs.Samples.{branch_of_entry, sample_of}
 use Rattle.replay_engine.specs.Laws.{SamplesJoin}
 use Rattle.replay_engine.specs.Stands.{lone_samples, lone_run_samples, lone_sample, scheduled_samples, scheduled_of, own_steps, place_after}
 use Rattle.replay_engine.specs.View.{Plan, subject_of}
@@ -32,14 +32,16 @@ use Rattle.replay_engine.specs.Start.{orders_from, tasks_of_lines, task_of_line,
 use Rattle.replay_engine.specs.Tasks.{PresentState}
 use Rattle.replay_engine.specs.declared.plan.Orders.{Orders}
 use Rattle.replay_engine.specs.declared.sampling.Subject.{Subject}
-use Rattle.rv_hart.specs.Facts.{IsState, StepsKeep, LoneRunKeeps, AreBytes}
+use Rattle.rv_hart.specs.Facts.{IsState, StepsKeep, LoneRunKeeps}
 use Rattle.rv_hart.specs.Task.{Irq, AreInterrupts}
 use Rattle.sched_text.specs.declared.schedule.TaskLine.{TaskLine}
 use Rattle.ctrsim_cli.specs.declared.counting.Counter.{Counter}
 use Rattle.ctrsim_cli.specs.Counted.{none_counted, count_byte, counted}
 use Rattle.ctrsim_cli.specs.Demo.{branch_count, demo_image, demo_lines, demo_schedule, turns, run_of_turn, sample_of_turn, summary_line, summary_of}
 use Rattle.ctrsim_cli.specs.Schedule.{output_of}
-use Rattle.ctrsim_cli.proofs.DemoLaws.{plan, first}
+use Rattle.ctrsim_cli.proofs.SteppedSchedules.{same_samples, same_output}
+use Rattle.replay_engine.specs.Scheduled.{SamplesAreLone}
+use Rattle.ctrsim_cli.proofs.DemoLaws.{plan, first, image_bytes}
 use Rattle.ctrsim_cli.proofs.PerformLaws.{samples_more}
 
 -- a counter at some place of a sample, whose size is known or is that of the sample before
@@ -245,7 +247,7 @@ branches_most (x ∷ xs) few =
 few_of : (s : Subject) (p : PresentState) → IsState p.state → Few (sample_of s p)
 few_of s p is =
     let slots = p.state.unit.stack.slots in
-    omega (arith, length-map (valid_entries slots) branch_of, length-filter is_valid slots, count_by-le-length is_valid slots, is.unit.buffer.stack.full, depths p.state.unit.stack.depth)
+    omega (arith, length-map (valid_entries slots) branch_of_entry, length-filter is_valid slots, count_by-le-length is_valid slots, is.unit.buffer.stack.full, depths p.state.unit.stack.depth)
   where
     depths : (d : Depth) → entries_of d ≤ 256
     depths D16 = omega arith
@@ -284,25 +286,6 @@ no_irqs : (t k : ℕ) (ls : List TaskLine) (o : Orders) → slice_get (orders_fr
 no_irqs t k [] o e = absurd (none-some o e)
 no_irqs t zero (l ∷ ls) o e = subst (λ (x : Orders). AreInterrupts x.irqs) (same_Some _ o e) tt
 no_irqs t (suc k) (l ∷ ls) o e = no_irqs (suc t) k ls o e
-
-image_bytes : AreBytes demo_image
-image_bytes =
-    one 239 (0 ∷ 128 ∷ 0 ∷ 19 ∷ 0 ∷ 0 ∷ 0 ∷ 103 ∷ 128 ∷ 0 ∷ 0 ∷ []) (omega arith) (
-    one 0 (128 ∷ 0 ∷ 19 ∷ 0 ∷ 0 ∷ 0 ∷ 103 ∷ 128 ∷ 0 ∷ 0 ∷ []) (omega arith) (
-    one 128 (0 ∷ 19 ∷ 0 ∷ 0 ∷ 0 ∷ 103 ∷ 128 ∷ 0 ∷ 0 ∷ []) (omega arith) (
-    one 0 (19 ∷ 0 ∷ 0 ∷ 0 ∷ 103 ∷ 128 ∷ 0 ∷ 0 ∷ []) (omega arith) (
-    one 19 (0 ∷ 0 ∷ 0 ∷ 103 ∷ 128 ∷ 0 ∷ 0 ∷ []) (omega arith) (
-    one 0 (0 ∷ 0 ∷ 103 ∷ 128 ∷ 0 ∷ 0 ∷ []) (omega arith) (
-    one 0 (0 ∷ 103 ∷ 128 ∷ 0 ∷ 0 ∷ []) (omega arith) (
-    one 0 (103 ∷ 128 ∷ 0 ∷ 0 ∷ []) (omega arith) (
-    one 103 (128 ∷ 0 ∷ 0 ∷ []) (omega arith) (
-    one 128 (0 ∷ 0 ∷ []) (omega arith) (
-    one 0 (0 ∷ []) (omega arith) (
-    one 0 ([]) (omega arith) (
-    All-nil (λ (n : ℕ). n < 256)))))))))))))
-  where
-    one : (b : ℕ) (bs : List ℕ) → b < 256 → AreBytes bs → AreBytes (b ∷ bs)
-    one b bs small are = All-cons (λ (n : ℕ). n < 256) b bs small are
 
 first_is : LoneRunKeeps → (t k n : ℕ) (ls : List TaskLine) (p : PresentState) → slice_get (map first_present (tasks_of_lines t ls (replicate n demo_image) [])) k ≡ Some p → IsState p.state
 first_is keep t k n [] p e = absurd (none-some p e)
@@ -356,14 +339,16 @@ small : (k : ℕ) → k < 2 ^ 64 → (0 + k) % 2 ^ 64 ≡ k
 small k less = grind (arith, less)
 
 -- what the counter says of them
-pub summed : PresentsAreSteps → StepsKeep → LoneRunKeeps → SamplesJoin → (n : ℕ) (c : Counter) → n ≤ 100000 → c ≡ counted none_counted (output_of (demo_schedule n))
+pub summed : PresentsAreSteps → StepsKeep → LoneRunKeeps → SamplesJoin → SamplesAreLone → (n : ℕ) (c : Counter) → n ≤ 100000 → c ≡ counted none_counted (output_of (demo_schedule n))
     → summary_line c.samples c.bytes c.branches ≡ summary_of (demo_schedule n)
-summed steps keep lone joins n c most is =
+summed steps keep lone joins same n c most is =
     let xs = scheduled_samples plan first (turns n) in
+    let stepped : c ≡ counted none_counted (spellings demo_layout xs) = is ∙ ap (counted none_counted) (sym (same_output same (demo_schedule n))) in
     let few = turns_few steps keep lone joins n in
     let r = all_counted 0 0 0 0 xs (inl refl) few.0 in
-    let all : c ≡ inside (0 + length xs) (0 + length (spellings demo_layout xs)) (0 + branch_count xs) 0 r.0 = is ∙ r.1 in
+    let all : c ≡ inside (0 + length xs) (0 + length (spellings demo_layout xs)) (0 + branch_count xs) 0 r.0 = stepped ∙ r.1 in
     let samples : c.samples ≡ length xs = ap (λ (k : Counter). k.samples) all ∙ small (length xs) (omega (arith, few.1, most)) in
     let bytes : c.bytes ≡ length (spellings demo_layout xs) = ap (λ (k : Counter). k.bytes) all ∙ small (length (spellings demo_layout xs)) (omega (arith, few.1, most, bytes_most xs few.0)) in
     let branches : c.branches ≡ branch_count xs = ap (λ (k : Counter). k.branches) all ∙ small (branch_count xs) (omega (arith, few.1, most, branches_most xs few.0)) in
     ap (λ (k : ℕ). summary_line k c.bytes c.branches) samples ∙ ap (λ (k : ℕ). summary_line (length xs) k c.branches) bytes ∙ ap (summary_line (length xs) (length (spellings demo_layout xs))) branches
+    ∙ ap (λ (ys : List Sample). summary_line (length ys) (length (spellings demo_layout ys)) (branch_count ys)) (same_samples same (demo_schedule n))

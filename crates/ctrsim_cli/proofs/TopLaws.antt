@@ -10,8 +10,12 @@ use Rattle.sched_text.specs.declared.schedule.Command.{Command}
 use Rattle.ctrsim_cli.specs.declared.fault.Fault.{Fault}
 use Rattle.ctrsim_cli.specs.declared.fault.Fault.TheVariants.{Usage, ReadFault, WriteFault, Line}
 use Rattle.ctrsim_cli.specs.declared.fault.Fault.TheVariants.{Memory, Sample as SampleAt}
-use Rattle.ctrsim_cli.specs.Demo.{DemoEnds}
-use Rattle.ctrsim_cli.specs.Fault.{status_of}
+use Rattle.ctrsim_cli.specs.OnHarts.{CountedOnHarts}
+use Rattle.ctrsim_cli.proofs.ChainLaws.{PerformedBy}
+use Rattle.ctrsim_cli.proofs.ShowLaws.{ends_shown}
+use Rattle.ctrsim_cli.specs.Does.{Does, DoesOnHarts, Completes}
+use Rattle.ctrsim_cli.specs.declared.words.Word.{Word}
+use Rattle.ctrsim_cli.specs.declared.words.Word.TheVariants.{Run, Show, Demo}
 use Rattle.ctrsim_cli.specs.Performed.{ReadCause, WriteCause}
 use Rattle.ctrsim_cli.specs.RunEnds.{RunEnds, RefusedBefore, RefusedAfter}
 use Rattle.ctrsim_cli.specs.Says.{IsRefusedBefore}
@@ -36,7 +40,7 @@ refused_is left left' gained old new harts text f is (inr r) = told left left' t
 
 pub all_performed : {K : Type 0} {text : List ℕ} → AcceptedOrBroken text → (left left' : Option (List ℕ)) (gained : K → List ℕ → K → Type 0) (old new : K) (harts : List HartState) (reads reads' writes writes' : ℕ) (fault : Option Fault) (commands : List Command)
     → left ≡ Some text → IsAccepted text commands → RunEnds left left' gained old new harts fault → ReadCause reads reads' fault → WriteCause writes writes' fault
-    → (Rose reads reads' → ⊥) → (Rose writes writes' → ⊥) → (status_of fault ≡ 0) ⊎ (status_of fault ≡ 7)
+    → (Rose reads reads' → ⊥) → (Rose writes writes' → ⊥) → (fault ≡ None) ⊎ (fault ≡ Some Memory)
 all_performed law left left' gained old new harts reads reads' writes writes' None commands is accepted ends read write kept sent = inl refl
 all_performed law left left' gained old new harts reads reads' writes writes' (Some ReadFault) commands is accepted ends read write kept sent = absurd (kept read)
 all_performed law left left' gained old new harts reads reads' writes writes' (Some WriteFault) commands is accepted ends read write kept sent = absurd (sent write)
@@ -59,12 +63,25 @@ all_refused law left left' gained old new harts reads reads' writes writes' (Som
 all_refused law left left' gained old new harts reads reads' writes writes' (Some Usage) f is broken ends read write kept sent = absurd ends
 all_refused law left left' gained old new harts reads reads' writes writes' (Some (SampleAt at g)) f is broken ends read write kept sent = absurd ends
 
-pub all_summed : {K : Type 0} (gained : K → List ℕ → K → Type 0) (old new : K) (harts : List HartState) (writes writes' turns : ℕ) (fault : Option Fault) → DemoEnds gained old new harts turns fault → WriteCause writes writes' fault
-    → (Rose writes writes' → ⊥) → (status_of fault ≡ 0) ⊎ (status_of fault ≡ 7)
-all_summed gained old new harts writes writes' turns None ends write sent = inl refl
-all_summed gained old new harts writes writes' turns (Some WriteFault) ends write sent = absurd (sent write)
-all_summed gained old new harts writes writes' turns (Some Memory) ends write sent = inr refl
-all_summed gained old new harts writes writes' turns (Some Usage) ends write sent = absurd ends
-all_summed gained old new harts writes writes' turns (Some ReadFault) ends write sent = absurd ends
-all_summed gained old new harts writes writes' turns (Some (Line f)) ends write sent = absurd ends
-all_summed gained old new harts writes writes' turns (Some (SampleAt at f)) ends write sent = absurd ends
+pub all_summed : {E H K : Type 0} (performed : PerformedBy E H) (gained : K → List ℕ → K → Type 0) (a b : H) (old new : K) (writes writes' turns : ℕ) (fault : Option Fault) → CountedOnHarts performed gained turns a b old new fault → WriteCause writes writes' fault
+    → (Rose writes writes' → ⊥) → (fault ≡ None) ⊎ (fault ≡ Some Memory)
+all_summed performed gained a b old new writes writes' turns None ends write sent = inl refl
+all_summed performed gained a b old new writes writes' turns (Some WriteFault) ends write sent = absurd (sent write)
+all_summed performed gained a b old new writes writes' turns (Some Memory) ends write sent = inr refl
+all_summed performed gained a b old new writes writes' turns (Some Usage) ends write sent = absurd ends
+all_summed performed gained a b old new writes writes' turns (Some ReadFault) ends write sent = absurd ends
+all_summed performed gained a b old new writes writes' turns (Some (Line f)) ends write sent = absurd ends
+all_summed performed gained a b old new writes writes' turns (Some (SampleAt at f)) ends write sent = absurd ends
+
+-- of each word
+pub completes : {E H K : Type 0} → ((text : List ℕ) → AcceptedOrBroken text) → (performed : PerformedBy E H) (word : Word) (tells : Type 0) (left left' : Option (List ℕ)) (gained : K → List ℕ → K → Type 0) (old new : K) (harts : List HartState) (a b : H) (reads reads' writes writes' : ℕ) (fault : Option Fault)
+    → Does word tells left left' gained old new harts fault → DoesOnHarts performed word gained a b old new fault → ReadCause reads reads' fault → WriteCause writes writes' fault
+    → Completes word tells (Rose reads reads' → ⊥) (Rose writes writes' → ⊥) left fault
+completes law performed Run tells left left' gained old new harts a b reads reads' writes writes' fault does on read write = λ told kept sent. record {
+  performed = λ text commands is accepted. all_performed (law text) left left' gained old new harts reads reads' writes writes' fault commands is accepted (does told) read write kept sent;
+  refused = λ text f is broken. all_refused (law text) left left' gained old new harts reads reads' writes writes' fault f is broken (does told) read write kept sent;
+}
+completes law performed (Show layout) tells left left' gained old new harts a b reads reads' writes writes' fault does on read write = λ kept sent samples spelled few is.
+    ends_shown gained layout left left' old new reads reads' writes writes' fault samples is spelled few does.0 read write kept sent
+completes law performed (Demo turns) tells left left' gained old new harts a b reads reads' writes writes' fault does on read write = λ sent.
+    all_summed performed gained a b old new writes writes' turns fault on write sent

@@ -10,8 +10,7 @@ use Rattle.sched_text.specs.declared.schedule.Command.TheVariants.{Run, Sample a
 use Rattle.sched_text.specs.declared.schedule.Header.{Header}
 use Rattle.sched_text.specs.declared.schedule.TaskLine.{TaskLine}
 use Rattle.ctrsim_cli.specs.declared.fault.Fault.{Fault}
-use Rattle.ctrsim_cli.specs.declared.fault.Fault.TheVariants.{Usage, ReadFault, WriteFault, Line}
-use Rattle.ctrsim_cli.specs.declared.fault.Fault.TheVariants.{Memory, Sample as SampleAt}
+use Rattle.ctrsim_cli.specs.declared.fault.Fault.TheVariants.{WriteFault, Memory}
 use Rattle.ctrsim_cli.specs.RunEnds.{Nothing}
 use Rattle.ctrsim_cli.specs.SampleText.{dec}
 use Rattle.ctrsim_cli.specs.Schedule.{Schedule, samples_of, output_of, HartsAreOf}
@@ -81,10 +80,7 @@ DemoEnds gained old new harts n None = gained old (summary_of (demo_schedule n))
 DemoEnds gained old new harts n (Some WriteFault) =
     GainsPart gained old new (summary_of (demo_schedule n)) × HartsAreOf (demo_schedule n) harts
 DemoEnds gained old new harts n (Some Memory) = Nothing gained old new harts
-DemoEnds gained old new harts n (Some Usage) = ⊥
-DemoEnds gained old new harts n (Some ReadFault) = ⊥
-DemoEnds gained old new harts n (Some (Line f)) = ⊥
-DemoEnds gained old new harts n (Some (SampleAt at fault)) = ⊥
+DemoEnds gained old new harts n (Some _) = ⊥
 
 -- a line of text
 abbrev pub line : List ℕ → List ℕ

@@ -1,26 +1,26 @@
 -- What holds when the word `run` was followed, by the fault: the headline.
-use Rattle.std.specs.Prelude.{◌≡◌, ◌⊎◌, ℕ, suc, ◌<◌, List, [], ◌∷◌, ◌++◌, Option, Some, None}
+use Rattle.std.specs.Prelude.{◌≡◌, ◌⊎◌, ℕ, List, [], ◌∷◌, ◌++◌, Option, Some, None}
 use Rattle.ctr_port.specs.InHand.{Of}
 use Rattle.perf_sample.specs.Spelling.{spelling}
 use Rattle.perf_sample.specs.declared.sample.Sample.{Sample}
+use Rattle.replay_engine.specs.HartSet.{AreMade}
 use Rattle.replay_engine.specs.Runs.{IsCut}
+use Rattle.replay_engine.specs.Start.{sample_layout}
 use Rattle.rv_hart.specs.Hart.{HartState, fresh_harts}
 use Rattle.sched_text.specs.declared.faults.LineFault.{LineFault}
 use Rattle.sched_text.specs.declared.schedule.Command.{Command}
-use Rattle.sched_text.specs.declared.schedule.Command.TheVariants.{Run, Sample as Sampled, Evict}
-use Rattle.sched_text.specs.declared.schedule.Command.TheVariants.{End}
 use Rattle.ctrsim_cli.specs.declared.fault.Fault.{Fault}
-use Rattle.ctrsim_cli.specs.declared.fault.Fault.TheVariants.{Usage, ReadFault, WriteFault, Line}
-use Rattle.ctrsim_cli.specs.declared.fault.Fault.TheVariants.{Memory, Sample as SampleAt}
+use Rattle.ctrsim_cli.specs.declared.fault.Fault.TheVariants.{ReadFault, WriteFault, Line, Memory}
 use Rattle.ctrsim_cli.specs.Says.{IsAcceptedAs, IsRefusedAfter, IsRefusedBefore, IsTakenTo}
 use Rattle.ctrsim_cli.specs.Says.{IsCutBefore, IsCutAfter, Took}
-use Rattle.ctrsim_cli.specs.Schedule.{Schedule, samples_of, layout_of, output_of, HartsAreOf}
+use Rattle.ctrsim_cli.specs.Schedule.{Schedule, IsSchedule, samples_of, output_of, HartsAreOf}
 use Rattle.ctrsim_cli.specs.Schedule.{followed_by}
 
 -- the sink gained the bytes of all samples of the schedule, and nothing else; and the harts are
 -- what its commands make of them
 pub record IsDone {K : Type 0} (gained : K → List ℕ → K → Type 0) (old new : K)
     (harts : List HartState) (s : Schedule) : Type 0 where
+  pub is : IsSchedule s
   pub written : gained old (output_of s) new
   pub harts_are : HartsAreOf s harts
 
@@ -65,20 +65,12 @@ pub record CutBefore {K : Type 0} (left left' : Option (List ℕ))
   pub nothing : Nothing gained old new harts
   pub text : Of left left' (Took IsCutBefore)
 
--- where the sample after the last step that was made of a command failed: the command with the
--- steps that were made, and what of it came before the last step
-abbrev pub AreMade : Command → Command → List Command → Type 0
-AreMade (Run h t n) made before =
-    (m : ℕ) × (m < n) × (made ≡ Run h t (suc m)) × (before ≡ Run h t m ∷ [])
-AreMade (Sampled t) made before = (made ≡ Sampled t) × (before ≡ [])
-AreMade (Evict h) made before = ⊥
-AreMade End made before = ⊥
-
 -- a sample of a command after those of the schedule could not be written: the sink gained the bytes
 -- of all samples before it, and a proper prefix of its own; and the harts stand right after its
 -- step
 pub record IsCutOff {K : Type 0} (gained : K → List ℕ → K → Type 0) (old new : K)
     (harts : List HartState) (s : Schedule) (c : Command) : Type 0 where
+  pub is : IsSchedule s
   pub made : Command
   pub before : List Command
   pub parts : AreMade c made before
@@ -86,7 +78,7 @@ pub record IsCutOff {K : Type 0} (gained : K → List ℕ → K → Type 0) (old
   pub is_last : samples_of (followed_by s (made ∷ []))
       ≡ samples_of (followed_by s before) ++ failed ∷ []
   pub last : List ℕ
-  pub cut : IsCut last (spelling (layout_of s) failed)
+  pub cut : IsCut last (spelling (sample_layout s.header) failed)
   pub written : gained old (output_of (followed_by s before) ++ last) new
   pub harts_are : HartsAreOf (followed_by s (made ∷ [])) harts
 
@@ -109,5 +101,4 @@ RunEnds left left' gained old new harts (Some ReadFault) =
 RunEnds left left' gained old new harts (Some WriteFault) =
     WriteFailed left left' gained old new harts
 RunEnds left left' gained old new harts (Some Memory) = Nothing gained old new harts
-RunEnds left left' gained old new harts (Some Usage) = ⊥
-RunEnds left left' gained old new harts (Some (SampleAt at fault)) = ⊥
+RunEnds left left' gained old new harts (Some _) = ⊥

@@ -1,5 +1,5 @@
 -- Which schedule a text says.
-use Rattle.std.specs.Prelude.{◌≡◌, ◌⊎◌, ℕ, ◌+◌, ◌<◌, List, [], ◌∷◌, ◌++◌, length, slice_get, Some}
+use Rattle.std.specs.Prelude.{◌≡◌, ◌⊎◌, ℕ, ◌<◌, List, [], ◌∷◌, ◌++◌, length, slice_get, Some}
 use Rattle.replay_engine.specs.Breaks.{HasAllowed, IsAccepted, CommandRefused}
 use Rattle.sched_text.specs.Header.{HeaderBreak}
 use Rattle.sched_text.specs.Text.{HasImage, ImagesBreak}
@@ -33,16 +33,18 @@ pub record IsRefusedAfter (text : List ℕ) (s : Schedule) (f : LineFault) : Typ
 abbrev pub IsRefusedBefore : List ℕ → LineFault → Type 0
 IsRefusedBefore text f = HeaderBreak text f ⊎ ImagesBreak text f
 
--- where `rest` is left of a text, fewer bytes than a window has were taken behind the line of this
--- command, which may be performed after those of the schedule
+-- `rest` is left of a text, and fewer bytes than a window has were taken ahead, behind the line of
+-- this command, which may be performed after those of the schedule
 pub record IsTakenTo (text rest : List ℕ) (s : Schedule) (c : Command) : Type 0 where
   pub lines : ℕ
   pub count : ℕ
   pub behind : List ℕ
+  pub ahead : List ℕ
+  pub left : behind ≡ ahead ++ rest
   pub begins : HasAllowed text lines count (s.commands ++ c ∷ []) behind
   pub header : begins.has.progress ≡ s.header
   pub images : AreImages text s.header s.images
-  pub near : length behind < length rest + WINDOW
+  pub near : length ahead < WINDOW
 
 -- the text ends before the first command, in the middle of a line or of the images
 abbrev pub IsCutBefore : List ℕ → Type 0

@@ -5,8 +5,7 @@ use Rattle.perf_sample.specs.Layout.{LayoutWords}
 use Rattle.perf_sample.specs.Reading.{is_read}
 use Rattle.perf_sample.specs.declared.faults.SampleFault.TheVariants as sample_fault
 use Rattle.ctrsim_cli.specs.declared.fault.Fault.{Fault}
-use Rattle.ctrsim_cli.specs.declared.fault.Fault.TheVariants.{Usage, ReadFault, WriteFault, Line}
-use Rattle.ctrsim_cli.specs.declared.fault.Fault.TheVariants.{Memory, Sample}
+use Rattle.ctrsim_cli.specs.declared.fault.Fault.TheVariants.{ReadFault, WriteFault, Sample}
 use Rattle.ctrsim_cli.specs.Showing.{AllShown, Refused, Unwritten, TakenShown, Shown}
 
 -- of any source: all bytes were samples and their texts were written; or those of the samples
@@ -21,9 +20,7 @@ ShowEnds gained layout left left' old new (Some ReadFault) =
     (at : ℕ) × Refused gained layout left left' old new sample_fault.ReadFault at
 ShowEnds gained layout left left' old new (Some WriteFault) =
     Unwritten gained layout left left' old new
-ShowEnds gained layout left left' old new (Some Usage) = ⊥
-ShowEnds gained layout left left' old new (Some Memory) = ⊥
-ShowEnds gained layout left left' old new (Some (Line f)) = ⊥
+ShowEnds gained layout left left' old new (Some _) = ⊥
 
 -- of these bytes: the text of the longest join of spellings that they begin with, or a proper
 -- prefix of it where the sink failed; after a failed read, that of the bytes that were taken
@@ -37,6 +34,4 @@ ShowsBytes gained layout bytes left' old new (Some ReadFault) =
     TakenShown gained layout (Some bytes) left' old new
 ShowsBytes gained layout bytes left' old new (Some WriteFault) =
     (text : List ℕ) → Shown layout bytes text → GainsPart gained old new text
-ShowsBytes gained layout bytes left' old new (Some Usage) = ⊥
-ShowsBytes gained layout bytes left' old new (Some Memory) = ⊥
-ShowsBytes gained layout bytes left' old new (Some (Line f)) = ⊥
+ShowsBytes gained layout bytes left' old new (Some _) = ⊥

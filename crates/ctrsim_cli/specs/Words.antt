@@ -1,5 +1,5 @@
 -- What the words of a call ask for.
-use Rattle.std.specs.Prelude.{◌≡◌, ◌⊎◌, ℕ, ◌≤◌, List, [], ◌∷◌, codes, string_bytes}
+use Rattle.std.specs.Prelude.{◌≡◌, ℕ, ◌≤◌, List, [], ◌∷◌, codes, string_bytes, ⊤}
 use Rattle.std.specs.declared.string.String.{String}
 use Rattle.perf_sample.specs.Layout.{LayoutWords, IsLayout, IsBranchWord}
 use Rattle.ctrsim_cli.specs.Numbers.{IsDecimal, IsHexadecimal}
@@ -52,6 +52,10 @@ IsAsked words (Demo turns) = IsDemo words turns
 
 -- they ask for something
 abbrev pub IsKnown : {A : Type 0} → List (String A) → Type 0
-IsKnown words =
-    IsRun words ⊎ (((layout : LayoutWords) × IsShow words layout)
-    ⊎ ((turns : ℕ) × IsDemo words turns))
+IsKnown words = (word : Word) × IsAsked words word
+
+-- the turns of a word are few enough
+abbrev pub IsWithin : Word → Type 0
+IsWithin Run = ⊤
+IsWithin (Show layout) = ⊤
+IsWithin (Demo turns) = turns ≤ 100000

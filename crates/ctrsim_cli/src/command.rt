@@ -1,13 +1,11 @@
 //! What the words of a call ask for, done.
 
 ghost use Rattle.std.specs.Prelude.{◌≡◌, ◌↔◌, ℕ, List, Some};
-ghost use Rattle.perf_sample.specs.Layout.{LayoutWords};
-ghost use Rattle.rv_hart.specs.Hart.{fresh_harts};
-ghost use Rattle.ctrsim_cli.specs.Demo.{DemoEnds};
+ghost use Rattle.ctrsim_cli.specs.Does.{Does, DoesOnHarts, LeavesSource};
 ghost use Rattle.ctrsim_cli.specs.Performed.{ReadCause, WriteCause, fault_of};
-ghost use Rattle.ctrsim_cli.specs.RunEnds.{RunEnds};
 ghost use Rattle.ctrsim_cli.specs.ShowEnds.{ShowEnds, ShowsBytes};
-ghost use Rattle.ctrsim_cli.specs.Words.{IsRun, IsShow, IsDemo, IsKnown};
+ghost use Rattle.ctrsim_cli.specs.Words.{IsAsked, IsKnown, IsWithin};
+ghost use Rattle.ctrsim_cli.specs.declared.words.Word.{Word};
 
 use crate::demo::demo;
 use crate::fault::Fault;
@@ -16,7 +14,7 @@ use crate::showing::{ShowFault, show};
 use crate::words::{Word, word_of};
 use ctr_port::{Sink, Source};
 use perf_sample::{Layout, SampleFault};
-use rv_hart::Harts;
+use replay_engine::HartSet;
 use std::alloc::Global;
 
 // Which fault of the call a broken sample is.
@@ -47,26 +45,48 @@ fn show_all<S: Source, K: Sink>(layout: Layout, source: &mut S, sink: &mut K) ->
     }
 }
 
+// Does what one word asks for.
+fn follow<S: Source, K: Sink, H: HartSet>(
+    alloc: Global,
+    word: Word,
+    source: &mut S,
+    sink: &mut K,
+    harts: &mut H,
+) -> Option<Fault>
+    requires fresh { H.fresh harts.old }
+    requires within { IsWithin word }
+    ensures does { Does word (H.tells harts.old) (S.left source.old) (S.left source.new) K.gained
+        sink.old sink.new (H.held harts.new) result }
+    ensures on_harts { DoesOnHarts H.performed word K.gained harts.old harts.new sink.old sink.new
+        result }
+    ensures source_stays { LeavesSource word source.old source.new }
+    ensures known { result ≡ Some Fault.Usage → ⊥ }
+    ensures read { ReadCause (S.faults source.old) (S.faults source.new) result }
+    ensures write { WriteCause (K.faults sink.old) (K.faults sink.new) result }
+{
+    match word {
+        Word::Run => run::<S, H, K>(alloc, source, sink, harts),
+        Word::Show(layout) => show_all(layout, source, sink),
+        Word::Demo(turns) => demo::<H, K>(alloc, turns, sink, harts),
+    }
+}
+
 /// Does what the words ask for.
-pub fn command<S: Source, K: Sink>(
+pub fn command<S: Source, K: Sink, H: HartSet>(
     alloc: Global,
     words: &[String],
     source: &mut S,
     sink: &mut K,
-    harts: &mut Harts,
+    harts: &mut H,
 ) -> Option<Fault>
-    requires { harts.old ≡ fresh_harts }
-    ensures run { IsRun words.now → RunEnds (S.left source.old) (S.left source.new)
-        K.gained sink.old sink.new harts.new result }
-    ensures show { (layout : LayoutWords) → IsShow words.now layout →
-        ShowEnds K.gained layout (S.left source.old) (S.left source.new) sink.old sink.new result }
-    ensures bytes { (layout : LayoutWords) (bytes : List ℕ) → IsShow words.now layout →
-        S.left source.old ≡ Some bytes →
-        ShowsBytes K.gained layout bytes (S.left source.new) sink.old sink.new result }
-    ensures demo { (turns : ℕ) → IsDemo words.now turns →
-        DemoEnds K.gained sink.old sink.new harts.new turns result }
-    ensures shown { (layout : LayoutWords) → IsShow words.now layout → harts.new ≡ harts.old }
-    ensures made { (turns : ℕ) → IsDemo words.now turns → source.new ≡ source.old }
+    requires { H.fresh harts.old }
+    ensures does { (word : Word) → IsAsked words.now word → Does word (H.tells harts.old)
+        (S.left source.old) (S.left source.new) K.gained sink.old sink.new (H.held harts.new)
+        result }
+    ensures on_harts { (word : Word) → IsAsked words.now word → DoesOnHarts H.performed word
+        K.gained harts.old harts.new sink.old sink.new result }
+    ensures source_stays { (word : Word) → IsAsked words.now word →
+        LeavesSource word source.old source.new }
     ensures usage { (result ≡ Some Fault.Usage) ↔ (IsKnown words.now → ⊥) }
     ensures untouched { (IsKnown words.now → ⊥) → (source.new ≡ source.old)
         × (sink.new ≡ sink.old) × (harts.new ≡ harts.old) }
@@ -75,10 +95,6 @@ pub fn command<S: Source, K: Sink>(
 {
     match word_of(words) {
         None => Some(Fault::Usage),
-        Some(word) => match word {
-            Word::Run => run(alloc, source, sink, harts),
-            Word::Show(layout) => show_all(layout, source, sink),
-            Word::Demo(turns) => demo(alloc, turns, sink, harts),
-        },
+        Some(word) => follow(alloc, word, source, sink, harts),
     }
 }

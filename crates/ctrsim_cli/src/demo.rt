@@ -1,15 +1,13 @@
 //! The word `demo`: a schedule that is made and not read, performed on the harts, and what its
 //! samples come to.
 
-ghost use Rattle.std.specs.Prelude.{◌≡◌, ◌≤◌, replicate, IfOk};
-ghost use Rattle.rv_hart.specs.Hart.{fresh_harts};
+ghost use Rattle.std.specs.Prelude.{◌≡◌, ◌≤◌, [], replicate, IfOk};
 ghost use Rattle.replay_engine.specs.Start.{memories};
-ghost use Rattle.ctrsim_cli.specs.Counted.{none_counted, counted};
 ghost use Rattle.ctrsim_cli.specs.Demo.{demo_image, demo_line, demo_lines, demo_header, DemoEnds};
-ghost use Rattle.ctrsim_cli.specs.Demo.{summary_line, demo_schedule, run_of_turn, sample_of_turn};
-ghost use Rattle.ctrsim_cli.specs.Parts.{IsReady};
+ghost use Rattle.ctrsim_cli.specs.Demo.{run_of_turn, sample_of_turn, turns};
+ghost use Rattle.ctrsim_cli.specs.OnHarts.{CountedOnHarts, line_of};
+ghost use Rattle.ctrsim_cli.specs.Parts.{Made};
 ghost use Rattle.ctrsim_cli.specs.Performed.{WriteCause};
-ghost use Rattle.ctrsim_cli.specs.Schedule.{output_of, HartsAreOf};
 
 use crate::bytes::{put, put_decimal};
 use crate::counting::Counter;
@@ -17,8 +15,8 @@ use crate::fault::Fault;
 use crate::memories::add_memory;
 use arrayvec::ArrayVec;
 use ctr_port::{NoMemory, Sink, write_whole};
-use replay_engine::{Engine, TaskMems, engine_laws};
-use rv_hart::{Harts, fact_laws};
+use replay_engine::{HartSet, TaskMems, engine_laws};
+use rv_hart::fact_laws;
 use sched_text::{Command, Header, IrqLines, TaskLine, TaskLines};
 use std::alloc::Global;
 
@@ -76,12 +74,13 @@ fn memories(alloc: Global) -> Result<TaskMems, NoMemory>
 }
 
 // The engine before the first turn.
-fn begin(alloc: Global) -> Result<Engine, NoMemory>
-    ensures { IfOk result (λ e. IsReady (demo_schedule 0) e) }
+fn begin<H: HartSet>(alloc: Global) -> Result<H::Engine, NoMemory>
+    ensures { (harts : H) → H.fresh harts →
+        IfOk result (λ e. H.follows demo_header (replicate 8 demo_image) [] e harts) }
 {
     let header = header(alloc)?;
     let mems = memories(alloc)?;
-    let engine = Engine::start(alloc, header, mems)?;
+    let engine = H::start(alloc, header, mems)?;
     Ok(engine)
 }
 
@@ -108,20 +107,19 @@ fn sample_of(turn: u32) -> Command
 }
 
 // Performs the turns, and counts their samples.
-fn perform_turns(engine: &mut Engine, harts: &mut Harts, turns: u32) -> Counter
-    requires few { turns ≤ 100000 }
-    requires ready { IsReady (demo_schedule 0) engine.old }
-    requires fresh { harts.old ≡ fresh_harts }
-    ensures counted { result ≡ counted none_counted (output_of (demo_schedule turns)) }
-    ensures harts { HartsAreOf (demo_schedule turns) harts.new }
+fn perform_turns<H: HartSet>(engine: &mut H::Engine, harts: &mut H, number: u32) -> Counter
+    requires few { number ≤ 100000 }
+    requires begun { H.follows demo_header (replicate 8 demo_image) [] engine.old harts.old }
+    ensures made { Made H.follows H.performed engine.old harts.old (turns number) engine.new harts.new
+        result }
 {
-    engine_laws();
+    H::laws();
     let mut counter = Counter::new();
-    for turn in 0..turns {
-        let Ok(()) = engine.perform(run_of(turn), harts, &mut counter) else {
+    for turn in 0..number {
+        let Ok(()) = H::perform(engine, run_of(turn), harts, &mut counter) else {
             unreachable!()
         };
-        let Ok(()) = engine.perform(sample_of(turn), harts, &mut counter) else {
+        let Ok(()) = H::perform(engine, sample_of(turn), harts, &mut counter) else {
             unreachable!()
         };
     }
@@ -131,8 +129,7 @@ fn perform_turns(engine: &mut Engine, harts: &mut Harts, turns: u32) -> Counter
 // The line that says what was counted.
 #[tactic(auto, unfolding(crate::specs::Demo::summary_line))]
 fn summary(counter: &Counter) -> Summary
-    ensures { result.items
-        ≡ summary_line counter.now.samples counter.now.bytes counter.now.branches }
+    ensures { result.items ≡ line_of counter.now }
 {
     let mut out = Summary::new();
     put(&mut out, b"samples ");
@@ -149,23 +146,27 @@ fn summary(counter: &Counter) -> Summary
 /// come to.
 // Never inlined: no word pays on the stack for what another word keeps there.
 #[inline(never)]
-pub(crate) fn demo<K: Sink>(
+pub(crate) fn demo<H: HartSet, K: Sink>(
     alloc: Global,
     turns: u32,
     sink: &mut K,
-    harts: &mut Harts,
+    harts: &mut H,
 ) -> Option<Fault>
     requires few { turns ≤ 100000 }
-    requires fresh { harts.old ≡ fresh_harts }
-    ensures ends { DemoEnds K.gained sink.old sink.new harts.new turns result }
+    requires fresh { H.fresh harts.old }
+    ensures ends { H.tells harts.old →
+        DemoEnds K.gained sink.old sink.new (H.held harts.new) turns result }
+    ensures on_harts { CountedOnHarts H.performed K.gained turns harts.old harts.new sink.old sink.new
+        result }
     ensures write { WriteCause (K.faults sink.old) (K.faults sink.new) result }
 {
     engine_laws();
     fact_laws();
-    let Ok(mut engine) = begin(alloc) else {
+    H::laws();
+    let Ok(mut engine) = begin::<H>(alloc) else {
         return Some(Fault::Memory);
     };
-    let counter = perform_turns(&mut engine, harts, turns);
+    let counter = perform_turns::<H>(&mut engine, harts, turns);
     match write_whole(sink, summary(&counter).as_slice()) {
         Ok(()) => None,
         Err(_) => Some(Fault::WriteFault),

@@ -3,6 +3,7 @@
 ghost use Rattle.std.specs.Prelude.{◌≡◌, ◌≤◌, ℕ, List, ◌∷◌, ◌++◌, [], None, Some, length, All, OnOk};
 ghost use Rattle.ctr_port.specs.Counts.{HasCause};
 ghost use Rattle.ctr_port.specs.InHand.{text_of};
+ghost use Rattle.rv_hart.specs.Facts.{AreBytes};
 ghost use Rattle.rv_hart.specs.Memory.{memory_of};
 ghost use Rattle.sched_text.specs.Causes.{is_read};
 ghost use Rattle.sched_text.specs.Rows.{IsTask};
@@ -24,7 +25,8 @@ pub(crate) fn add_memory(
 ) -> Result<(), NoMemory>
     requires fits { length image.now ≤ size }
     requires small { size ≤ 1048576 }
-    ensures { OnOk result (mems.new ≡ mems.old ++ memory_of image.now size ∷ []) }
+    ensures added { OnOk result (mems.new ≡ mems.old ++ memory_of image.now size ∷ []) }
+    ensures bytes { AreBytes image.now }
 {
     let mem = TaskMem::new(alloc, image, size)?;
     mems.push(mem)

@@ -46,7 +46,7 @@ fn show_each<S: Source, K: Sink>(
     source: &mut S,
     sink: &mut K,
 ) -> Result<(), ShowFault>
-    ensures showed { ShowAnswer K.gained layout (S.left source.old) (S.left source.new)
+    ensures answer { ShowAnswer K.gained layout (S.left source.old) (S.left source.new)
         sink.old sink.new result }
     ensures source_later { S.faults source.old ≤ S.faults source.new }
     ensures sink_later { K.faults sink.old ≤ K.faults sink.new }
@@ -84,11 +84,11 @@ pub fn show<S: Source, K: Sink>(
     source: &mut S,
     sink: &mut K,
 ) -> Result<(), ShowFault>
-    ensures showed { ShowAnswer K.gained layout (S.left source.old) (S.left source.new)
+    ensures answer { ShowAnswer K.gained layout (S.left source.old) (S.left source.new)
         sink.old sink.new result }
     // Of a source that tells its bytes: the text of the longest join of spellings that they begin
     // with.
-    ensures told { (bytes : List ℕ) → S.left source.old ≡ Some bytes →
+    ensures bytes { (bytes : List ℕ) → S.left source.old ≡ Some bytes →
         BytesAnswer K.gained layout bytes sink.old sink.new result }
     ensures cut { CutAt K.gained layout (S.left source.old) (S.left source.new)
         sink.old sink.new result }

@@ -1,28 +1,18 @@
 //! The top call.
 
-ghost use Rattle.std.specs.Prelude.{◌≡◌, ◌↔◌, ◌⊎◌, ◌≤◌, ℕ, Some, List, length};
+ghost use Rattle.std.specs.Prelude.{◌≡◌, ◌↔◌, Some};
 ghost use Rattle.ctr_port.specs.Counts.{Rose};
-ghost use Rattle.rv_hart.specs.Hart.{fresh_harts};
+ghost use Rattle.ctrsim_cli.specs.Does.{Does, DoesOnHarts, LeavesSource, Completes};
 ghost use Rattle.ctrsim_cli.specs.Fault.{status_of, said_if};
-ghost use Rattle.replay_engine.specs.Breaks.{IsAccepted, ScheduleBreak};
-ghost use Rattle.sched_text.specs.declared.faults.LineFault.{LineFault};
-ghost use Rattle.sched_text.specs.declared.schedule.Command.{Command};
-ghost use Rattle.ctrsim_cli.specs.Demo.{DemoEnds};
-ghost use Rattle.ctrsim_cli.specs.RunEnds.{RunEnds};
-ghost use Rattle.ctrsim_cli.specs.ShowEnds.{ShowEnds, ShowsBytes};
-ghost use Rattle.ctrsim_cli.specs.Showing.{AreSpelled, joined};
-ghost use Rattle.ctrsim_cli.specs.Words.{IsRun, IsShow, IsDemo, IsKnown};
-ghost use Rattle.perf_sample.specs.Layout.{LayoutWords};
-ghost use Rattle.perf_sample.specs.declared.limits.TheConstants.{MAX_SAMPLES};
-ghost use Rattle.perf_sample.specs.declared.sample.Sample.{Sample};
 ghost use Rattle.ctrsim_cli.specs.Performed.{SaidPart};
+ghost use Rattle.ctrsim_cli.specs.Words.{IsAsked, IsKnown};
+ghost use Rattle.ctrsim_cli.specs.declared.words.Word.{Word};
 
 use crate::command::command;
 use crate::fault::{Fault, Outcome};
 use crate::notes::line_of;
 use ctr_port::{Sink, Source, write_whole};
-use replay_engine::engine_laws;
-use rv_hart::Harts;
+use replay_engine::{HartSet, engine_laws};
 use std::alloc::Global;
 
 // The exit status of a fault, or of none.
@@ -62,37 +52,35 @@ fn say<N: Sink>(fault: Option<Fault>, notes: &mut N)
 ///
 /// What is said of a fault goes to `notes`; a failure of `notes` changes neither the status nor the
 /// output. Memory is asked for under `run` and `demo` alone, and before the first command.
-pub fn ctrsim<S: Source, K: Sink, N: Sink>(
+pub fn ctrsim<S: Source, K: Sink, N: Sink, H: HartSet>(
     alloc: Global,
     words: &[String],
     source: &mut S,
     sink: &mut K,
     notes: &mut N,
-    harts: &mut Harts,
+    harts: &mut H,
 ) -> Outcome
-    requires { harts.old ≡ fresh_harts }
+    requires { H.fresh harts.old }
     ensures status { result.status ≡ status_of result.fault }
 
-    // The headline. Without a fault all input is an accepted schedule, and the sink gained the
-    // bytes of all its samples, in order, and nothing else; each is the sample of its task's lone
-    // run, whatever other tasks and moves came between; and the harts are what the commands make of
-    // them. With a fault, what was read, written and performed before it.
-    ensures run { IsRun words.now → RunEnds (S.left source.old) (S.left source.new)
-        K.gained sink.old sink.new harts.new result.fault }
+    // What the words ask for was done. Of `run` this is the headline: without a fault all input is
+    // an accepted schedule, and the sink gained the bytes of all its samples, in order, and nothing
+    // else; each is the sample of its task's lone run, whatever other tasks and moves came between;
+    // and the harts are what the commands make of them. With a fault, what was read, written and
+    // performed before it. Of `show`, the samples that were read, and their texts, which the sink
+    // gained. Of `demo`, what the samples of the turns come to.
+    ensures does { (word : Word) → IsAsked words.now word → Does word (H.tells harts.old)
+        (S.left source.old) (S.left source.new) K.gained sink.old sink.new (H.held harts.new)
+        result.fault }
 
-    // The samples that were read, and their texts, which the sink gained.
-    ensures show { (layout : LayoutWords) → IsShow words.now layout →
-        ShowEnds K.gained layout (S.left source.old) (S.left source.new)
-        sink.old sink.new result.fault }
-    ensures bytes { (layout : LayoutWords) (bytes : List ℕ) → IsShow words.now layout →
-        S.left source.old ≡ Some bytes →
-        ShowsBytes K.gained layout bytes (S.left source.new) sink.old sink.new result.fault }
-    ensures shown { (layout : LayoutWords) → IsShow words.now layout → harts.new ≡ harts.old }
+    // Whatever the harts are: what `run` wrote, and `demo` counted, was read on them in the commands
+    // that were performed there, one after the other, and nothing else; and `show` leaves them.
+    ensures on_harts { (word : Word) → IsAsked words.now word → DoesOnHarts H.performed word
+        K.gained harts.old harts.new sink.old sink.new result.fault }
 
-    // What the samples of the turns come to, and the harts after them; nothing is read.
-    ensures demo { (turns : ℕ) → IsDemo words.now turns →
-        DemoEnds K.gained sink.old sink.new harts.new turns result.fault }
-    ensures made { (turns : ℕ) → IsDemo words.now turns → source.new ≡ source.old }
+    // `demo` reads nothing.
+    ensures source_stays { (word : Word) → IsAsked words.now word →
+        LeavesSource word source.old source.new }
 
     // Other words come exactly to this, and touch nothing.
     ensures usage { (result.fault ≡ Some Fault.Usage) ↔ (IsKnown words.now → ⊥) }
@@ -106,24 +94,9 @@ pub fn ctrsim<S: Source, K: Sink, N: Sink>(
         Rose (K.faults sink.old) (K.faults sink.new) }
 
     // Each comes wherever its cause is there, but for want of memory and for counts that rose.
-    ensures all_performed { IsRun words.now → (text : List ℕ) (commands : List Command) →
-        S.left source.old ≡ Some text → IsAccepted text commands →
-        (Rose (S.faults source.old) (S.faults source.new) → ⊥) →
-        (Rose (K.faults sink.old) (K.faults sink.new) → ⊥) →
-        (result.status ≡ 0) ⊎ (result.status ≡ 7) }
-    ensures all_refused { IsRun words.now → (text : List ℕ) (f : LineFault) →
-        S.left source.old ≡ Some text → ScheduleBreak text f →
-        (Rose (S.faults source.old) (S.faults source.new) → ⊥) →
-        (Rose (K.faults sink.old) (K.faults sink.new) → ⊥) →
-        (result.fault ≡ Some (Fault.Line f)) ⊎ (result.fault ≡ Some Fault.Memory) }
-    ensures all_shown { (layout : LayoutWords) (samples : List Sample) → IsShow words.now layout →
-        AreSpelled layout samples → length samples ≤ MAX_SAMPLES →
-        S.left source.old ≡ Some (joined layout samples) →
-        (Rose (S.faults source.old) (S.faults source.new) → ⊥) →
-        (Rose (K.faults sink.old) (K.faults sink.new) → ⊥) → result.status ≡ 0 }
-    ensures all_summed { (turns : ℕ) → IsDemo words.now turns →
-        (Rose (K.faults sink.old) (K.faults sink.new) → ⊥) →
-        (result.status ≡ 0) ⊎ (result.status ≡ 7) }
+    ensures complete { (word : Word) → IsAsked words.now word → Completes word (H.tells harts.old)
+        (Rose (S.faults source.old) (S.faults source.new) → ⊥)
+        (Rose (K.faults sink.old) (K.faults sink.new) → ⊥) (S.left source.old) result.fault }
 
     // The text of the fault, or of it what the notes took; nothing where there is none.
     ensures notes { SaidPart N.gained notes.old notes.new (said_if result.fault)

@@ -3,7 +3,19 @@ use crate::case::{ALONE, Alone, check_alones};
 use ctr_port::NoMemory;
 use ctr_vectors::images::*;
 
-const CASES: [Alone; 3] = [
+const CASES: [Alone; 4] = [
+    Alone {
+        name: "a sample in VU",
+        task: "task 48 48 0 0 1 0\n",
+        image: LOOP_IN_VU,
+        run: "run 0 0 12\n",
+        steps: 12,
+        misc: 5,
+        ip: 0x8000_002C,
+        branches: &[(0x8000_002C, 0x8000_002C, 0x20_0000)],
+        status: 1,
+        ..ALONE
+    },
     Alone {
         name: "a freeze at a counter overflow in a guest",
         task: "task 48 48 0 0 1001 0\n",

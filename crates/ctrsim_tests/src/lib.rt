@@ -12,6 +12,8 @@ mod demo;
 #[cfg(test)]
 mod failing;
 #[cfg(test)]
+mod fields;
+#[cfg(test)]
 mod guests;
 #[cfg(test)]
 mod hardware_index;

@@ -123,6 +123,103 @@ fn every_field_has_its_line(rt: HostRuntime) -> Result<(), NoMemory> {
 
 const LAYOUT: &[&str] = &["show", "803"];
 
+// The types of branches by their numbers (`perf_event.h`, enum perf_branch_type).
+const TYPES: [&str; 16] = [
+    "unknown",
+    "cond",
+    "uncond",
+    "ind",
+    "call",
+    "ind_call",
+    "ret",
+    "syscall",
+    "sysret",
+    "cond_call",
+    "cond_ret",
+    "eret",
+    "irq",
+    "serror",
+    "no_tx",
+    "extend_abi",
+];
+
+#[test]
+fn every_type_of_branch_has_its_name(rt: HostRuntime) -> Result<(), NoMemory> {
+    // a sample of mode M, 32 + 16 * 24 bytes, with ip, pid and tid 0
+    let mut words = Vec::new(rt.alloc());
+    words.extend_from_slice(&[0x01A0_0003_0000_0009u64, 0, 0, 16])?;
+    let mut text = Vec::new(rt.alloc());
+    text.extend_from_slice(b"sample 0 misc 3 size 416\nip 0x0000000000000000\n")?;
+    text.extend_from_slice(b"pid 0 tid 0\nbranches 16\n")?;
+    let digits = b"0123456789abcdef";
+    for (kind, name) in TYPES.iter().enumerate() {
+        words.extend_from_slice(&[0, 0, (kind as u64) << 20])?;
+        text.extend_from_slice(b"0x0000000000000000 0x0000000000000000 ")?;
+        text.extend_from_slice(name.as_bytes())?;
+        text.extend_from_slice(b" 0x0000000000")?;
+        text.push(digits.get(kind).copied().unwrap_or(b'?'))?;
+        text.extend_from_slice(b"00000\n")?;
+    }
+    let bytes = bytes_of_words(rt.alloc(), &words)?;
+    let ended = run(rt.alloc(), LAYOUT, &bytes, &[])?;
+    shows(&rt, "every type", &ended, &text);
+    Ok(())
+}
+
+// A sample of every field with one branch, and the names of its words behind the header.
+const ALL_WITH_ONE: [u64; 15] = [
+    0x0078_0005_0000_0009, // a sample of mode VU, 120 bytes
+    16,
+    0x8000_0008,
+    0x000A_0000_0009,
+    7,
+    0xDEAD,
+    17,
+    18,
+    15,
+    100,
+    1, // one branch
+    0, // the youngest is in entry 0
+    0x8000_0000,
+    0x8000_0008,
+    0x0040_0000,
+];
+
+const WORDS: [&str; 14] = [
+    "identifier",
+    "ip",
+    "tid",
+    "time",
+    "addr",
+    "id",
+    "stream_id",
+    "cpu",
+    "period",
+    "nr",
+    "hw_index",
+    "from 0",
+    "to 0",
+    "flags 0",
+];
+
+#[test]
+fn a_sample_that_is_cut_is_cut_in_the_field_of_its_name(rt: HostRuntime) -> Result<(), NoMemory> {
+    let all = bytes_of_words(rt.alloc(), &ALL_WITH_ONE)?;
+    for (k, word) in WORDS.iter().enumerate() {
+        // the header, the words before, and three bytes of this one
+        let len = k.saturating_mul(8).saturating_add(11);
+        let part = all.get(..len).unwrap_or(b"");
+        assert_eq!(rt; part.len(), len);
+        let ended = run(rt.alloc(), &["show", "10BCF", "20000"], part, &[])?;
+        let mut said = Vec::new(rt.alloc());
+        for text in ["ctrsim: sample at 0: cut in ", word, "\n"] {
+            said.extend_from_slice(text.as_bytes())?;
+        }
+        refuses(&rt, &ended, b"", &said);
+    }
+    Ok(())
+}
+
 // A call refused a sample behind one that was shown, and said this of it.
 fn refuses(rt: &impl Abort, ended: &Ended, text: &[u8], said: &[u8]) {
     assert_eq!(rt; ended.outcome.status, 6);

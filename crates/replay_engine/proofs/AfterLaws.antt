@@ -26,7 +26,7 @@ use Rattle.replay_engine.specs.StandsAfter.{StandsForMore, StandsForPart, Stands
 use Rattle.replay_engine.specs.StandsAfter.{StandsAfter}
 use Rattle.replay_engine.specs.Stands.{place_after, resident_after, ViewStandsFor, StandsFor}
 use Rattle.replay_engine.specs.Stands.{CanPerform}
-use Rattle.replay_engine.specs.Refusals.{refusal_after}
+use Rattle.replay_engine.specs.Refusals.{command_refusal}
 use Rattle.replay_engine.proofs.AtLaws.{unnamed_after}
 use Rattle.replay_engine.proofs.Items.{some_of, get_there}
 use Rattle.replay_engine.proofs.Performs.{ran_places, ran_residents}
@@ -93,7 +93,7 @@ more_stand plan first cs v End s a i = stand_end plan first cs v s
 
 same_told : (plan : Plan) (first : List PresentState) (cs : List Command) (v : View) (c : Command)
     (f : PerformFault) → plan.harts ≤ 16
-    → ViewStandsFor plan first cs v → refusal plan v c ≡ Some f → refusal_after plan cs c ≡ Some f
+    → ViewStandsFor plan first cs v → refusal plan v c ≡ Some f → command_refusal plan cs c ≡ Some f
 same_told plan first cs v c f few s e = sym (refusal_same plan first cs v c few s) ∙ e
 
 -- the whole command

@@ -11,7 +11,7 @@ use Rattle.sched_text.specs.declared.schedule.Command.{Command}
 use Rattle.sched_text.specs.declared.schedule.Command.TheVariants.{Run, Sample as Sampled, Evict}
 use Rattle.sched_text.specs.declared.schedule.Command.TheVariants.{End}
 use Rattle.replay_engine.specs.declared.plan.Orders.{Orders}
-use Rattle.replay_engine.specs.HartsAt.{IsAt, Runs, StandingHartsAreAt, ResidentsAreLone}
+use Rattle.replay_engine.specs.HartsAt.{IsAt, HoldsState, StandingHartsAreAt, ResidentsAreLone}
 use Rattle.replay_engine.specs.Outcome.{IsUntouched, OthersStay}
 use Rattle.replay_engine.specs.Placing.{IsOn}
 use Rattle.replay_engine.specs.Runs.{present_after}
@@ -25,7 +25,7 @@ use Rattle.replay_engine.specs.Start.{first_present}
 use Rattle.replay_engine.proofs.Items.{get_map, got_by, get_there, some_of}
 use Rattle.replay_engine.proofs.Moves.{present_there}
 use Rattle.replay_engine.proofs.PlacingLaws.{places_are_told}
-use Rattle.replay_engine.proofs.VisibleLaws.{lone_state}
+use Rattle.replay_engine.proofs.LoneRuns.{lone_state}
 
 or_parts : (a b : Bool) → (a || b) ≡ false → (a ≡ false) × (b ≡ false)
 or_parts false false e = (refl, refl)
@@ -146,5 +146,5 @@ residents_are_lone plan tasks cs ts hs h t y task ordered s at here is =
     let got : slice_get first t ≡ Some p = get_map first_present tasks t task is in
     let o = get_there plan.tasks t
     (omega (arith, slice_get_within first t p got, s.view.orders)) in
-    subst (Runs y) (lone_state plan tasks ordered t p o.0 o.1 task is refl (own_steps cs t))
+    subst (HoldsState y) (lone_state plan tasks ordered t p o.0 o.1 task is refl (own_steps cs t))
     ((is_at plan first cs ts hs h y s at).runs t p o.0 here got o.1)

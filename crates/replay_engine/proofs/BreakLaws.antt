@@ -32,7 +32,7 @@ use Rattle.replay_engine.specs.Breaks.{reason_of, AllowedAfter, AreAllowed, ByTe
 use Rattle.replay_engine.specs.Breaks.{ByPlace}
 use Rattle.replay_engine.specs.Breaks.{CommandRefused, ScheduleBreak, IsAccepted, AcceptedOrBroken}
 use Rattle.replay_engine.specs.Outcome.{no_place}
-use Rattle.replay_engine.specs.Refusals.{refusal_after}
+use Rattle.replay_engine.specs.Refusals.{command_refusal}
 use Rattle.replay_engine.specs.Stands.{place_after, resident_after}
 use Rattle.replay_engine.specs.Start.{plan_of}
 use Rattle.replay_engine.specs.View.{Plan}
@@ -76,25 +76,25 @@ step_back (Err f) line k y e = absurd (cc)
 -- commands are allowed with the last of them, and without it
 allowed_part : (plan : Plan) (before cs : List Command) (c : Command) →
     AllowedAfter plan before (cs ++ c ∷ []) →
-    AllowedAfter plan before cs × (refusal_after plan (before ++ cs) c ≡ None)
+    AllowedAfter plan before cs × (command_refusal plan (before ++ cs) c ≡ None)
 allowed_part plan before [] c a =
-    (tt, ap (λ (b : List Command). refusal_after plan b c) (append-nil before) ∙ a.0)
+    (tt, ap (λ (b : List Command). command_refusal plan b c) (append-nil before) ∙ a.0)
 allowed_part plan before (d ∷ cs) c a =
     let rest = allowed_part plan (before ++ d ∷ []) cs c a.1 in (
       (a.0, rest.0),
-      ap (λ (b : List Command). refusal_after plan b c) (sym (append_assoc before (d ∷ []) cs))
+      ap (λ (b : List Command). command_refusal plan b c) (sym (append_assoc before (d ∷ []) cs))
           ∙ rest.1,
     )
 
 allowed_more : (plan : Plan) (before cs : List Command) (c : Command) →
-    AllowedAfter plan before cs → refusal_after plan (before ++ cs) c ≡ None →
+    AllowedAfter plan before cs → command_refusal plan (before ++ cs) c ≡ None →
     AllowedAfter plan before (cs ++ c ∷ [])
 allowed_more plan before [] c a e =
-    (ap (λ (b : List Command). refusal_after plan b c) (sym (append-nil before)) ∙ e, tt)
+    (ap (λ (b : List Command). command_refusal plan b c) (sym (append-nil before)) ∙ e, tt)
 allowed_more plan before (d ∷ cs) c a e = (
   a.0,
   allowed_more plan (before ++ d ∷ []) cs c a.1
-      (ap (λ (b : List Command). refusal_after plan b c) (append_assoc before (d ∷ []) cs) ∙ e),
+      (ap (λ (b : List Command). command_refusal plan b c) (append_assoc before (d ∷ []) cs) ∙ e),
 )
 
 -- the line after so many commands that are allowed is refused
@@ -140,8 +140,8 @@ no_place_before plan base t n zero x y f reads by more allowed =
     let part = allowed_part plan [] s.before.0 s.last (subst (AllowedAfter plan []) s.list allowed)
     in
     none-some by.why
-    (sym part.1 ∙ ap (λ (z : List Command × List ℕ). refusal_after plan z.0 s.last) same
-    ∙ ap (refusal_after plan x.0) (sym c) ∙ by.refused)
+    (sym part.1 ∙ ap (λ (z : List Command × List ℕ). command_refusal plan z.0 s.last) same
+    ∙ ap (command_refusal plan x.0) (sym c) ∙ by.refused)
 no_place_before plan base t n (suc k) x y f reads by more allowed =
     let sum : n + suc k ≡ suc (n + k) = omega arith in
     let s = step_back (commands_after (n + suc k) base t) (base + suc (n + suc k)) (n + suc k)
@@ -178,8 +178,8 @@ alike plan line count x f g (inr a) (inr b) =
     ap (λ (z : Command × List ℕ). z.0)
     (same_ok (command_at line count x.1) (b.command, b.rest) (a.command, a.rest) b.reads
     a.reads) in
-    let other : refusal_after plan x.0 a.command ≡ Some b.why =
-    ap (refusal_after plan x.0) (sym command) ∙ b.refused in
+    let other : command_refusal plan x.0 a.command ≡ Some b.why =
+    ap (command_refusal plan x.0) (sym command) ∙ b.refused in
     let why : a.why ≡ b.why = cc (a.refused, other) in
     let named : reason_of a.why ≡ Some b.reason = ap reason_of why ∙ b.named in
     let same : a.reason ≡ b.reason = cc (a.named, named) in
@@ -252,7 +252,7 @@ place_named : (o : Option ℕ) (why : PerformFault) → IsNamed (Some why) →
 place_named None why is = is
 place_named (Some h) why is = tt
 
-all_named : (plan : Plan) (cs : List Command) (c : Command) → IsNamed (refusal_after plan cs c)
+all_named : (plan : Plan) (cs : List Command) (c : Command) → IsNamed (command_refusal plan cs c)
 all_named plan cs (Run h t n) =
     if_named (nat_lt t (length plan.tasks)) (if nat_lt h plan.harts then None else Some NoHart)
     (Some NoTask)
@@ -274,7 +274,7 @@ judged (Some why) = inr (why, refl)
 refused_here : (p : Header) (base : ℕ) (t : List ℕ) (n : ℕ) (x : List Command × List ℕ)
     (z : Command × List ℕ) (why : PerformFault) → commands_after n base t ≡ Ok x →
     AreAllowed (plan_of p) x.0 → command_at (base + suc n) n x.1 ≡ Ok z →
-    refusal_after (plan_of p) x.0 z.0 ≡ Some why → (f : LineFault) × BreakAt p base t n f
+    command_refusal (plan_of p) x.0 z.0 ≡ Some why → (f : LineFault) × BreakAt p base t n f
 refused_here p base t n x z why reads allowed next refused =
     let named = subst IsNamed refused (all_named (plan_of p) x.0 z.0) in (
       record { line = base + (n + 1); reason = named.0 },
@@ -308,7 +308,7 @@ first_refused p base t (suc n) x e =
     let s = step_back (commands_after n base t) (base + suc n) n x e in
     elim (first_refused p base t n s.before s.reads) [
       | inr found ↦ inr found
-      | inl allowed ↦ elim (judged (refusal_after (plan_of p) s.before.0 s.last)) [
+      | inl allowed ↦ elim (judged (command_refusal (plan_of p) s.before.0 s.last)) [
         | inl none ↦ inl (subst (AreAllowed (plan_of p)) (sym s.list)
             (allowed_more (plan_of p) [] s.before.0 s.last allowed none))
         | inr why ↦

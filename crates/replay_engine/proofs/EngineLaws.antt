@@ -14,7 +14,7 @@ use Rattle.replay_engine.specs.Laws.{RefusalsAgree, HeadersGiveInterrupts}
 use Rattle.replay_engine.specs.Runs.{next_present, present_after}
 use Rattle.replay_engine.specs.Samples.{sample_of}
 use Rattle.replay_engine.specs.Stands.{own_steps, scheduled_of, scheduled_from}
-use Rattle.replay_engine.specs.Start.{first_present, lone_present, irq_of, irqs_of, task_of_line}
+use Rattle.replay_engine.specs.Start.{first_present, lone_present, interrupt_of, irqs_of, task_of_line}
 use Rattle.replay_engine.specs.Tasks.{PresentState}
 use Rattle.replay_engine.specs.View.{Plan}
 use Rattle.replay_engine.proofs.HeaderLaws.{header_irqs, are_interrupts}
@@ -73,7 +73,7 @@ samples_are_own a b line image t n g h layout branch irqs =
           g;
       period = line.period;
     })
-    (lone_present (task_of_line line image (map irq_of (lines_of_task t a.irqs))) n)) { cpu = 0 })
+    (lone_present (task_of_line line image (map interrupt_of (lines_of_task t a.irqs))) n)) { cpu = 0 })
     layout
     ∙ ap (λ (l : ℕ). record
     (sample_of (record {
@@ -83,7 +83,7 @@ samples_are_own a b line image t n g h layout branch irqs =
       hart = g;
       period = line.period;
     })
-    (lone_present (task_of_line line image (map irq_of (lines_of_task t a.irqs))) n)) { cpu = 0 })
+    (lone_present (task_of_line line image (map interrupt_of (lines_of_task t a.irqs))) n)) { cpu = 0 })
     branch
     ∙ ap (λ (lines : List IrqLine). record
     (sample_of (record {
@@ -93,7 +93,7 @@ samples_are_own a b line image t n g h layout branch irqs =
       hart = g;
       period = line.period;
     })
-    (lone_present (task_of_line line image (map irq_of lines)) n)) { cpu = 0 }) irqs
+    (lone_present (task_of_line line image (map interrupt_of lines)) n)) { cpu = 0 }) irqs
 
 pub commands_add_little : CommandsAddLittle
 commands_add_little = performed_within

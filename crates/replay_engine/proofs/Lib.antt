@@ -24,5 +24,6 @@ mod FactLaws
 mod AfterLaws
 mod AtLaws
 mod BreakLaws
-mod VisibleLaws
 mod LineLaws
+mod ScheduledLaws
+mod HartSetLaws

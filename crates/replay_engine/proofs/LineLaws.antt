@@ -1,37 +1,26 @@
--- The plan, the tasks and the samples of a header, by its task lines.
-use Rattle.std.proofs.Common.{◌≡◌, refl, sym, ◌∙◌, ap, ℕ, zero, suc, ◌+◌, List, [], ◌∷◌, ◌++◌}
-use Rattle.std.proofs.Common.{length, map, Bool, true, false, cond, Option, Some, arith}
+-- The plan and the tasks of a header, by its task lines.
+use Rattle.std.proofs.Common.{◌≡◌, refl, sym, ◌∙◌, ap, ℕ, zero, suc, ◌+◌, List, [], ◌∷◌}
+use Rattle.std.proofs.Common.{length, Some, arith}
 use Rattle.std.specs.Prelude.{slice_get}
-use Rattle.std.specs.List.{All, filter, range_with_len}
-use Rattle.std.proofs.lemmas.List.{map-append}
-use Rattle.std.proofs.lemmas.List.Elements.{All-nil, All-cons, All-head, All-tail, filter-append}
+use Rattle.std.specs.List.{All}
+use Rattle.std.proofs.lemmas.List.Elements.{All-nil, All-cons, All-head, All-tail}
 use Rattle.std.proofs.lemmas.Option.{none-some}
 use Rattle.rv_hart.specs.Facts.{AreBytes, IsTask}
 use Rattle.rv_hart.specs.Task.{Irq, Task, AreInterrupts}
-use Rattle.perf_sample.specs.declared.sample.Sample.{Sample}
 use Rattle.sched_text.specs.declared.schedule.IrqLine.{IrqLine}
 use Rattle.sched_text.specs.declared.schedule.TaskLine.{TaskLine}
 use Rattle.replay_engine.specs.declared.plan.Orders.{Orders}
-use Rattle.replay_engine.specs.declared.sampling.Subject.{Subject}
 use Rattle.replay_engine.specs.ByLine.{PlansSayHeaders, HeadersGiveTasks, HeadersGiveSoundTasks}
-use Rattle.replay_engine.specs.ByLine.{CommandsGiveLoneSamples}
-use Rattle.replay_engine.specs.Runs.{due_sample, is_due, present_after}
-use Rattle.replay_engine.specs.Samples.{sample_of}
-use Rattle.replay_engine.specs.Stands.{lone_run_samples, lone_sample, lone_samples, own_steps}
-use Rattle.replay_engine.specs.Stands.{place_after}
-use Rattle.replay_engine.specs.Start.{first_present, lone_present, irqs_of, orders_from, plan_of}
+use Rattle.replay_engine.specs.Start.{irqs_of, orders_from}
 use Rattle.replay_engine.specs.Start.{task_of_line, tasks_of_lines}
-use Rattle.replay_engine.specs.Tasks.{PresentState}
-use Rattle.replay_engine.specs.View.{subject_of}
 use Rattle.replay_engine.proofs.EngineLaws.{headers_give_interrupts}
-use Rattle.replay_engine.proofs.Items.{get_map, some_of}
-use Rattle.replay_engine.proofs.LoneRuns.{lone_is}
+use Rattle.replay_engine.proofs.Items.{some_of}
 use Rattle.replay_engine.proofs.StartLaws.{length_orders}
 
-abbrev order_of : TaskLine → List Irq → Orders
+abbrev pub order_of : TaskLine → List Irq → Orders
 order_of line irqs = record { memory = line.mem; period = line.period; irqs = irqs }
 
-orders_at : (u : ℕ) (ls : List TaskLine) (irqs : List IrqLine) (t : ℕ) (line : TaskLine) →
+pub orders_at : (u : ℕ) (ls : List TaskLine) (irqs : List IrqLine) (t : ℕ) (line : TaskLine) →
     slice_get ls t ≡ Some line → slice_get (orders_from u ls irqs) t
     ≡ Some (order_of line (irqs_of (u + t) irqs))
 orders_at u [] irqs t line e = absurd (none-some line e)
@@ -68,7 +57,7 @@ length_tasks u (l ∷ ls) [] irqs e = absurd (omega (arith, e))
 length_tasks u (l ∷ ls) (i ∷ is) irqs e =
     ap suc (length_tasks (suc u) ls is irqs (omega (arith, e)))
 
-tasks_at : (u : ℕ) (ls : List TaskLine) (is : List (List ℕ)) (irqs : List IrqLine) (t : ℕ)
+pub tasks_at : (u : ℕ) (ls : List TaskLine) (is : List (List ℕ)) (irqs : List IrqLine) (t : ℕ)
     (line : TaskLine) (image : List ℕ) → slice_get ls t ≡ Some line → slice_get is t ≡ Some image
     → slice_get (tasks_of_lines u ls is irqs) t
     ≡ Some (task_of_line line image (irqs_of (u + t) irqs))
@@ -118,78 +107,3 @@ sound_from u (l ∷ ls) (i ∷ is) irqs good bytes =
 pub headers_give_sound_tasks : HeadersGiveSoundTasks
 headers_give_sound_tasks h images is bytes =
     sound_from 0 h.tasks images h.irqs (λ t. headers_give_interrupts h t is) bytes
-
-range_more : (a n : ℕ) → range_with_len a (suc n) ≡ range_with_len a n ++ (a + n) ∷ []
-range_more a zero = let none : a ≡ a + 0 = omega arith in ap (λ (k : ℕ). k ∷ []) none
-range_more a (suc n) =
-    let one : a + 1 + n ≡ a + suc n = omega arith in
-    ap (λ (ks : List ℕ). a ∷ ks) (range_more (a + 1) n
-    ∙ ap (λ (k : ℕ). range_with_len (a + 1) n ++ k ∷ []) one)
-
--- one number more that passes a test, or doesn't
-filter_more : (p : ℕ → Bool) (a n k : ℕ) → a + n ≡ k
-    → filter p (range_with_len a (suc n)) ≡ filter p (range_with_len a n) ++ cond (p k) (k ∷ []) []
-filter_more p a n k e =
-    ap (filter p) (range_more a n ∙ ap (λ (j : ℕ). range_with_len a n ++ j ∷ []) e)
-    ∙ filter-append p (range_with_len a n) (k ∷ [])
-
-mapped : (f : ℕ → Sample) (b : Bool) (k : ℕ) → cond b (f k ∷ []) [] ≡ map f (cond b (k ∷ []) [])
-mapped f true k = refl
-mapped f false k = refl
-
--- the samples of a lone run above a count are those at the multiples of the period
-counted : (s : Subject) (task : Task) (m n : ℕ) →
-    lone_samples s task.irqs m n (first_present task)
-    ≡ map (λ k. sample_of s (lone_present task k))
-    (filter (is_due s.period) (range_with_len (m + 1) n))
-counted s task m zero = refl
-counted s task m (suc n) =
-    let k = m + suc n in
-    let f : ℕ → Sample = λ k. sample_of s (lone_present task k) in
-    let p : ℕ → Bool = is_due s.period in
-    let before = filter p (range_with_len (m + 1) n) in
-    let number : m + 1 + n ≡ k = omega arith in
-    ap (λ (xs : List Sample). xs ++ due_sample s (present_after task.irqs k (first_present task)))
-    (counted s task m n)
-    ∙ ap (λ (q : PresentState). map f before ++ due_sample s q) (lone_is task k)
-    ∙ ap (λ (xs : List Sample). map f before ++ xs) (mapped f (p k) k)
-    ∙ sym (map-append f before (cond (p k) (k ∷ []) []))
-    ∙ ap (map f) (sym (filter_more p (m + 1) n k number))
-
-pub commands_give_lone_samples : CommandsGiveLoneSamples
-commands_give_lone_samples h images before t line image at there =
-    let number : 0 + t ≡ t = omega arith in
-    let plan = plan_of h in
-    let task = task_of_line line image (irqs_of t h.irqs) in
-    let o = order_of line (irqs_of t h.irqs) in
-    let tasks = tasks_of_lines 0 h.tasks images h.irqs in
-    let first = map first_present tasks in
-    let own = own_steps before t in
-    let got : slice_get first t ≡ Some (first_present task) =
-    get_map first_present tasks t task (tasks_at 0 h.tasks images h.irqs t line image at there
-    ∙ ap (λ (k : ℕ). Some (task_of_line line image (irqs_of k h.irqs))) number) in
-    let ordered : slice_get plan.tasks t ≡ Some o =
-    orders_at 0 h.tasks h.irqs t line at
-    ∙ ap (λ (k : ℕ). Some (order_of line (irqs_of k h.irqs))) number in
-    record {
-      run = λ g n.
-          ap (λ (p : Option PresentState). lone_run_samples p (slice_get plan.tasks t) plan g t own
-          n) got
-          ∙ ap (λ (x : Option Orders). lone_run_samples (Some (first_present task)) x plan g t own
-          n) ordered
-          ∙ counted (subject_of plan g t o) task own n;
-      sample = λ g on.
-          ap (λ (p : Option PresentState). lone_sample p (slice_get plan.tasks t)
-          (place_after before t) plan t own) got
-          ∙ ap (λ (x : Option Orders). lone_sample (Some (first_present task)) x
-          (place_after before t) plan t own) ordered
-          ∙ ap (λ (q : Option ℕ). lone_sample (Some (first_present task)) (Some o) q plan t own) on
-          ∙ ap (λ (p : PresentState). sample_of (subject_of plan g t o) p ∷ []) (lone_is task own);
-      nowhere = λ off.
-          ap (λ (p : Option PresentState). lone_sample p (slice_get plan.tasks t)
-          (place_after before t) plan t own) got
-          ∙ ap (λ (x : Option Orders). lone_sample (Some (first_present task)) x
-          (place_after before t) plan t own) ordered
-          ∙ ap (λ (q : Option ℕ). lone_sample (Some (first_present task)) (Some o) q plan t own)
-          off;
-    }

@@ -7,10 +7,10 @@ use Rattle.perf_sample.specs.declared.faults.Place.TheVariants as place
 use Rattle.perf_sample.specs.Layout.{LayoutWords, has, Fits, FlagsFit}
 use Rattle.rv_hart.specs.Processor.{CoreState}
 use Rattle.replay_engine.specs.declared.sampling.Subject.{Subject}
-use Rattle.replay_engine.specs.Samples.{kept, branches_of, sample_by, hw_index_of}
+use Rattle.replay_engine.specs.Samples.{if_asked, branches_of, sample_by, hw_index_of}
 
 left_out : (layout : LayoutWords) (p : Place) (value : ℕ) → has layout p ≡ false →
-    kept layout p value ≡ 0
+    if_asked layout p value ≡ 0
 left_out layout p value e = ap (λ (b : Bool). if b then value else 0) e
 
 pub sample_fits : (s : Subject) (core : CoreState) (stack : Stack) (steps : ℕ) →

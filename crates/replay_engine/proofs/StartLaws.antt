@@ -1,5 +1,5 @@
 -- An engine before its first command.
-use Rattle.std.proofs.Common.{◌≡◌, refl, sym, ap, subst, ◌∙◌, ℕ, zero, suc, ◌+◌, ◌<◌}
+use Rattle.std.proofs.Common.{◌≡◌, ◌≤◌, refl, sym, ap, subst, ◌∙◌, ℕ, zero, suc, ◌+◌, ◌<◌}
 use Rattle.std.proofs.Common.{List, [], ◌∷◌, ◌++◌, length, map, take, drop, get_or, replicate}
 use Rattle.std.proofs.Common.{nat_eq, Bool, true, cond, Option, Some, None}
 use Rattle.std.proofs.Common.{arith}
@@ -17,12 +17,12 @@ use Rattle.sched_text.specs.Rows.{IsTask}
 use Rattle.sched_text.specs.Irqs.{lines_of_task}
 use Rattle.replay_engine.specs.declared.plan.Orders.{Orders}
 use Rattle.replay_engine.specs.Irqs.{IsIrq, CanFollow, AreIrqs}
-use Rattle.replay_engine.specs.Start.{irq_of, irqs_of, orders_from}
+use Rattle.replay_engine.specs.Start.{interrupt_of, irqs_of, orders_from}
 use Rattle.replay_engine.specs.Tasks.{PresentState, present_states}
 use Rattle.replay_engine.specs.Tasks.{places, PlacesAgree, state_off}
 use Rattle.replay_engine.specs.View.{Plan, view_of, steps_of, accesses_of}
 use Rattle.replay_engine.specs.Stands.{ViewStandsFor, StandsFor}
-use Rattle.replay_engine.specs.Engine.{IsEngine, HasWholeArea, IsOrders, memory_size}
+use Rattle.replay_engine.specs.Engine.{IsEngine, HasWholeArea, IsOrders, IsEarlyEnough, memory_size}
 use Rattle.replay_engine.specs.Engine.{memory_asked}
 use Rattle.replay_engine.proofs.FirstLaws.{length-fresh_tasks}
 use Rattle.replay_engine.proofs.Items.{some_of}
@@ -35,7 +35,8 @@ use Rattle.replay_engine.specs.Start.{fresh_task, fresh_tasks, task_of_line, dep
 use Rattle.replay_engine.specs.Start.{AreMemories, mem_of, size_of, memories, tasks_of_lines}
 use Rattle.replay_engine.specs.Start.{first_present, fresh_engine}
 use Rattle.replay_engine.proofs.IrqLaws.{follows_in}
-use Rattle.replay_engine.proofs.HeaderLaws.{length_map, irqs_append, header_irqs}
+use Rattle.replay_engine.proofs.HeaderLaws.{length_map, irqs_append, header_irqs, header_irqs_few}
+use Rattle.replay_engine.proofs.HeaderLaws.{header_irqs_early}
 use Rattle.replay_engine.specs.Counts.{CountsWithin}
 
 parts_of : (lines : List IrqLine) (i : ℕ) → lines ≡ take i lines ++ drop i lines
@@ -51,35 +52,35 @@ all_middle (z ∷ zs) x ys each = all_middle zs x ys (All-tail IsIrq z (zs ++ x 
 -- the lines of a task, before, at and after a line of its own
 pub irqs_at : (t i : ℕ) (lines : List IrqLine) (x : IrqLine) → i < length lines → x
     ≡ get_or lines i x → nat_eq x.task t ≡ true
-    → irqs_of t lines ≡ irqs_of t (take i lines) ++ irq_of x ∷ irqs_of t (drop (i + 1) lines)
+    → irqs_of t lines ≡ irqs_of t (take i lines) ++ interrupt_of x ∷ irqs_of t (drop (i + 1) lines)
 irqs_at t i lines x within is same =
     ap (irqs_of t) (parts_of lines i ∙ ap (λ (ys : List IrqLine). take i lines ++ ys)
     (drop_more lines i x within ∙ ap (λ (y : IrqLine). y ∷ drop (i + 1) lines) (sym is)))
     ∙ irqs_append t (take i lines) (x ∷ drop (i + 1) lines)
-    ∙ ap (λ (b : Bool). irqs_of t (take i lines) ++ map irq_of
+    ∙ ap (λ (b : Bool). irqs_of t (take i lines) ++ map interrupt_of
     (cond b (x ∷ lines_of_task t (drop (i + 1) lines)) (lines_of_task t (drop (i + 1) lines))))
     same
 
 -- a line of a task can follow those before it
 pub may_push : (t i : ℕ) (lines : List IrqLine) (x : IrqLine) → AreIrqs (irqs_of t lines) →
     i < length lines → x ≡ get_or lines i x → nat_eq x.task t ≡ true
-    → IsIrq (irq_of x) × CanFollow (irqs_of t (take i lines)) (irq_of x)
+    → IsIrq (interrupt_of x) × CanFollow (irqs_of t (take i lines)) (interrupt_of x)
 may_push t i lines x are within is same =
     let parts = irqs_at t i lines x within is same in
     let before = irqs_of t (take i lines) in
     let after = irqs_of t (drop (i + 1) lines) in
-    let so : AreIrqs (before ++ irq_of x ∷ after) = subst AreIrqs parts are in
-    (all_middle before (irq_of x) after so.each, follows_in before (irq_of x) after so.rise)
+    let so : AreIrqs (before ++ interrupt_of x ∷ after) = subst AreIrqs parts are in
+    (all_middle before (interrupt_of x) after so.each, follows_in before (interrupt_of x) after so.rise)
 
 -- one line more of a task, or of another
 pub irqs_take : (t i : ℕ) (lines : List IrqLine) (x : IrqLine) (b : Bool) → i < length lines → x
     ≡ get_or lines i x → nat_eq x.task t ≡ b
-    → irqs_of t (take (i + 1) lines) ≡ irqs_of t (take i lines) ++ map irq_of (cond b (x ∷ []) [])
+    → irqs_of t (take (i + 1) lines) ≡ irqs_of t (take i lines) ++ map interrupt_of (cond b (x ∷ []) [])
 irqs_take t i lines x b within is same =
     ap (irqs_of t) (take_more lines i x within
     ∙ ap (λ (y : IrqLine). take i lines ++ y ∷ []) (sym is))
     ∙ irqs_append t (take i lines) (x ∷ [])
-    ∙ ap (λ (b : Bool). irqs_of t (take i lines) ++ map irq_of (cond b (x ∷ []) [])) same
+    ∙ ap (λ (b : Bool). irqs_of t (take i lines) ++ map interrupt_of (cond b (x ∷ []) [])) same
 
 pub orders_more : (t : ℕ) (ls : List TaskLine) (l : TaskLine) (irqs : List IrqLine)
     → orders_from t (ls ++ l ∷ []) irqs
@@ -216,12 +217,23 @@ memories_asked t (l ∷ ls) (m ∷ ms) irqs e =
 
 -- the orders of lines in their ranges
 orders_good : (u : ℕ) (ls : List TaskLine) (irqs : List IrqLine) →
-    ((t : ℕ) → AreIrqs (irqs_of t irqs)) → All IsTask ls → All IsOrders (orders_from u ls irqs)
-orders_good u [] irqs are each = All-nil IsOrders
-orders_good u (l ∷ ls) irqs are each =
+    ((t : ℕ) → AreIrqs (irqs_of t irqs)) → ((t : ℕ) → length (irqs_of t irqs) ≤ 1024) →
+    ((t : ℕ) → All IsEarlyEnough (irqs_of t irqs)) → All IsTask ls →
+    All IsOrders (orders_from u ls irqs)
+orders_good u [] irqs are few early each = All-nil IsOrders
+orders_good u (l ∷ ls) irqs are few early each =
+    let is = All-head IsTask l ls each in
     All-cons IsOrders _ (orders_from (suc u) ls irqs)
-    (record { period = (All-head IsTask l ls each).period; irqs = are u })
-    (orders_good (suc u) ls irqs are (All-tail IsTask l ls each))
+    (record {
+      least = is.some;
+      most = is.most;
+      words = is.words;
+      period = is.period;
+      irqs = are u;
+      few = few u;
+      steps = early u;
+    })
+    (orders_good (suc u) ls irqs are few early (All-tail IsTask l ls each))
 
 pub started_facts : (h : Header) (ms : List (List ℕ)) → IsHeader h → AreMemories h.tasks ms →
     All HasWholeArea (fresh_tasks h.tasks ms) → IsEngine (fresh_engine h ms)
@@ -235,7 +247,8 @@ started_facts h ms is are areas =
       layout = is.layout;
       branch = is.branch;
       orders =
-          orders_good 0 ls h.irqs (header_irqs (length ls) h.irqs is.irqs is.order) is.tasks;
+          orders_good 0 ls h.irqs (header_irqs (length ls) h.irqs is.irqs is.order)
+          (header_irqs_few h.irqs is.order) (header_irqs_early (length ls) h.irqs is.irqs) is.tasks;
       one_task = omega (arith, is.one_task, same);
       few = omega (arith, is.few, same);
       areas = areas;

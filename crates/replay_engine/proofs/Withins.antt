@@ -21,7 +21,7 @@ use Rattle.replay_engine.specs.View.{after_bringing, after_running_by, after_run
 use Rattle.replay_engine.specs.View.{after_sampling_by, after_command}
 use Rattle.replay_engine.specs.Outcome.{refusal}
 use Rattle.replay_engine.specs.Stands.{ViewStandsFor}
-use Rattle.replay_engine.specs.Refusals.{refusal_after}
+use Rattle.replay_engine.specs.Refusals.{command_refusal}
 use Rattle.replay_engine.proofs.Items.{get_set_same, get_set_other, either, some_of, get_there}
 use Rattle.replay_engine.proofs.Makes.{add_within}
 use Rattle.replay_engine.proofs.Steps.{most_entries, costs_most, sample_most}
@@ -183,7 +183,7 @@ lt_is n m e = grind (arith, e)
 
 pub refusal_same : (plan : Plan) (first : List PresentState) (cs : List Command) (v : View)
     (c : Command) → plan.harts ≤ 16 → ViewStandsFor plan first cs v → refusal plan v c
-    ≡ refusal_after plan cs c
+    ≡ command_refusal plan cs c
 refusal_same plan first cs v (Run h t n) few s = refl
 refusal_same plan first cs v (Sampled t) few s = elim (cases_Bool (nat_lt t (length plan.tasks))) [
   | inl there ↦

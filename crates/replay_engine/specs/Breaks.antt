@@ -12,7 +12,7 @@ use Rattle.sched_text.specs.declared.faults.Reason.{Reason}
 use Rattle.sched_text.specs.declared.faults.Reason.TheVariants as reason
 use Rattle.replay_engine.specs.declared.fault.PerformFault.{PerformFault}
 use Rattle.replay_engine.specs.declared.fault.PerformFault.TheVariants as fault
-use Rattle.replay_engine.specs.Refusals.{refusal_after}
+use Rattle.replay_engine.specs.Refusals.{command_refusal}
 use Rattle.replay_engine.specs.Start.{plan_of}
 use Rattle.replay_engine.specs.View.{Plan}
 
@@ -28,7 +28,7 @@ reason_of fault.Write = None
 abbrev pub AllowedAfter : Plan → List Command → List Command → Type 0
 AllowedAfter plan before [] = ⊤
 AllowedAfter plan before (c ∷ cs) =
-    (refusal_after plan before c ≡ None) × AllowedAfter plan (before ++ c ∷ []) cs
+    (command_refusal plan before c ≡ None) × AllowedAfter plan (before ++ c ∷ []) cs
 
 abbrev pub AreAllowed : Plan → List Command → Type 0
 AreAllowed plan cs = AllowedAfter plan [] cs
@@ -53,7 +53,7 @@ pub record ByPlace (plan : Plan) (line count : ℕ) (commands : List Command) (b
   pub why : PerformFault
   pub reason : Reason
   pub reads : command_at line count behind ≡ Ok (command, rest)
-  pub refused : refusal_after plan commands command ≡ Some why
+  pub refused : command_refusal plan commands command ≡ Some why
   pub named : reason_of why ≡ Some reason
   pub fault : f ≡ record { line = line; reason = reason }
 

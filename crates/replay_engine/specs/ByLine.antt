@@ -1,18 +1,13 @@
--- The plan, the tasks and the samples of a header, told of its task lines one at a time.
-use Rattle.std.specs.Prelude.{◌≡◌, ℕ, ◌+◌, List, [], ◌∷◌, length, map, slice_get, Some, None}
-use Rattle.std.specs.List.{All, filter, range_with_len}
+-- The plan and the tasks of a header, told of its task lines one at a time.
+use Rattle.std.specs.Prelude.{◌≡◌, ℕ, List, length, slice_get, Some}
+use Rattle.std.specs.List.{All}
 use Rattle.rv_hart.specs.Facts.{AreBytes, IsTask}
 use Rattle.rv_hart.specs.Task.{Task}
-use Rattle.perf_sample.specs.declared.sample.Sample.{Sample}
 use Rattle.sched_text.specs.Header.{IsHeader}
-use Rattle.sched_text.specs.declared.schedule.Command.{Command}
-use Rattle.sched_text.specs.declared.schedule.Command.TheVariants.{Run, Sample as Sampled}
 use Rattle.sched_text.specs.declared.schedule.Header.{Header}
 use Rattle.sched_text.specs.declared.schedule.TaskLine.{TaskLine}
 use Rattle.replay_engine.specs.declared.plan.Orders.{Orders}
-use Rattle.replay_engine.specs.Runs.{is_due}
-use Rattle.replay_engine.specs.Stands.{own_steps, place_after, scheduled_of}
-use Rattle.replay_engine.specs.Start.{first_present, irqs_of, lone_sample_of, plan_of, task_of_line}
+use Rattle.replay_engine.specs.Start.{irqs_of, plan_of, task_of_line}
 use Rattle.replay_engine.specs.Start.{tasks_of_lines}
 use Rattle.replay_engine.specs.View.{Plan}
 use Rattle.replay_engine.specs.Visible.{IsPlanOf}
@@ -52,25 +47,3 @@ HeadersGiveTasks = (h : Header) (images : List (List ℕ)) → length images ≡
 abbrev pub HeadersGiveSoundTasks : Type 0
 HeadersGiveSoundTasks = (h : Header) (images : List (List ℕ)) → IsHeader h → All AreBytes images →
     All IsTask (tasks_of_lines 0 h.tasks images h.irqs)
-
--- the samples of a schedule that a command gives, after the commands before it
-abbrev pub samples_given : Header → List (List ℕ) → List Command → Command → List Sample
-samples_given h images before c =
-    scheduled_of (plan_of h) (map first_present (tasks_of_lines 0 h.tasks images h.irqs)) before c
-
--- of a task: a run on hart g gives the samples of its lone run at those of its next own counts that
--- are multiples of the period, and `sample` the one at its own count, where it is on a hart
-pub record AreGivenOf (h : Header) (images : List (List ℕ)) (before : List Command) (t : ℕ)
-    (line : TaskLine) (image : List ℕ) : Type 0 where
-  pub run : (g n : ℕ) → samples_given h images before (Run g t n)
-      ≡ map (λ k. lone_sample_of h line image t k g)
-      (filter (is_due line.period) (range_with_len (own_steps before t + 1) n))
-  pub sample : (g : ℕ) → place_after before t ≡ Some g
-      → samples_given h images before (Sampled t)
-      ≡ lone_sample_of h line image t (own_steps before t) g ∷ []
-  pub nowhere : place_after before t ≡ None → samples_given h images before (Sampled t) ≡ []
-
-abbrev pub CommandsGiveLoneSamples : Type 0
-CommandsGiveLoneSamples = (h : Header) (images : List (List ℕ)) (before : List Command) (t : ℕ)
-    (line : TaskLine) (image : List ℕ) → slice_get h.tasks t ≡ Some line →
-    slice_get images t ≡ Some image → AreGivenOf h images before t line image

@@ -1,8 +1,10 @@
 -- What an engine holds, and what every engine keeps to.
-use Rattle.std.specs.Prelude.{◌≡◌, ℕ, ◌<◌, ◌≤◌, Bool, List, length, map, slice_get, Option, Some}
+use Rattle.std.specs.Prelude.{◌≡◌, ℕ, ◌%◌, ◌<◌, ◌≤◌, Bool, List, length, map, slice_get, Option, Some}
 use Rattle.std.specs.List.{All}
 use Rattle.perf_sample.specs.Layout.{IsLayout, IsBranchWord}
-use Rattle.sched_text.specs.declared.limits.TheConstants.{MAX_STEPS}
+use Rattle.rv_hart.specs.Task.{Irq}
+use Rattle.sched_text.specs.declared.limits.TheConstants.{MAX_MEMORY, MAX_STEPS, MAX_IRQS}
+use Rattle.sched_text.specs.declared.limits.TheConstants.{MAX_IRQ_STEP}
 use Rattle.task_switch.specs.SaveArea.{IsWhole}
 use Rattle.replay_engine.specs.declared.plan.Orders.{Orders}
 use Rattle.replay_engine.specs.Irqs.{AreIrqs}
@@ -33,10 +35,19 @@ AreApart ps = (t u h : ℕ) → slice_get ps t ≡ Some (Some h) → slice_get p
 abbrev pub HasWholeArea : TaskState → Type 0
 HasWholeArea x = IsWhole x.area
 
--- a period in its range, and interrupts in their order
+abbrev pub IsEarlyEnough : Irq → Type 0
+IsEarlyEnough irq = irq.step ≤ MAX_IRQ_STEP
+
+-- a memory of words and a period in their ranges, and interrupts in their order, of which there are
+-- no more than a task may have, at steps that it may come to
 pub record IsOrders (o : Orders) : Type 0 where
+  pub least : 4 ≤ o.memory
+  pub most : o.memory ≤ MAX_MEMORY
+  pub words : o.memory % 4 ≡ 0
   pub period : o.period ≤ MAX_STEPS
   pub irqs : AreIrqs o.irqs
+  pub few : length o.irqs ≤ MAX_IRQS
+  pub steps : All IsEarlyEnough o.irqs
 
 -- there are harts and tasks, and a layout of samples; there is a task for each that the schedule
 -- speaks of, with a memory of its size and a save area that holds a unit; each is on one of the

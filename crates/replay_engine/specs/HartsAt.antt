@@ -1,4 +1,4 @@
--- What the sixteen harts are after commands, told from the commands and the lone runs alone.
+-- What the sixteen harts are after commands, by the plan and the states that the tasks begin with.
 use Rattle.std.specs.Prelude.{◌≡◌, ℕ, false, List, length, map, slice_get, Some}
 use Rattle.std.specs.List.{list_any}
 use Rattle.rv_hart.specs.Hart.{HartState, fresh_hart}
@@ -14,7 +14,7 @@ use Rattle.replay_engine.specs.View.{Plan}
 use Rattle.replay_engine.specs.Visible.{IsPlanOf}
 
 -- a hart with the core and the unit of a task after so many steps
-pub record Runs (y : HartState) (p : PresentState) : Type 0 where
+pub record HoldsState (y : HartState) (p : PresentState) : Type 0 where
   pub core : y.core ≡ p.state.core
   pub unit : y.unit ≡ p.state.unit
 
@@ -27,7 +27,7 @@ pub record IsAt (plan : Plan) (first : List PresentState) (cs : List Command) (h
   pub accesses : y.accesses ≡ accesses_on plan first cs h
   pub runs : (t : ℕ) (p : PresentState) (o : Orders) → resident_after cs h ≡ Some t →
       slice_get first t ≡ Some p → slice_get plan.tasks t ≡ Some o →
-      Runs y (present_after o.irqs (own_steps cs t) p)
+      HoldsState y (present_after o.irqs (own_steps cs t) p)
   pub unnamed : list_any (names h) cs ≡ false → y ≡ fresh_hart
 
 pub record AreAt (plan : Plan) (first : List PresentState) (cs : List Command) (hs : List HartState)
@@ -47,4 +47,4 @@ ResidentsAreLone = (plan : Plan) (tasks : List Task) (cs : List Command) (ts : L
     (hs : List HartState) (h t : ℕ) (y : HartState) (task : Task) →
     IsPlanOf tasks plan → StandsFor plan (map first_present tasks) cs ts hs →
     slice_get hs h ≡ Some y → resident_after cs h ≡ Some t → slice_get tasks t ≡ Some task →
-    Runs y (lone_present task (own_steps cs t))
+    HoldsState y (lone_present task (own_steps cs t))

@@ -14,10 +14,10 @@ use Rattle.replay_engine.specs.declared.sampling.Subject.{Subject}
 use Rattle.replay_engine.specs.Counts.{CountsWithin}
 use Rattle.replay_engine.specs.Outcome.{refusal}
 use Rattle.replay_engine.specs.Placing.{IsOn}
-use Rattle.replay_engine.specs.Refusals.{refusal_after}
+use Rattle.replay_engine.specs.Refusals.{command_refusal}
 use Rattle.replay_engine.specs.Runs.{present_after, samples_of_steps}
-use Rattle.replay_engine.specs.Stands.{own_steps, place_after, ViewStandsFor, scheduled_from}
-use Rattle.replay_engine.specs.Stands.{scheduled_samples}
+use Rattle.replay_engine.specs.Stands.{own_steps, place_after, resident_after, ViewStandsFor}
+use Rattle.replay_engine.specs.Stands.{scheduled_from, scheduled_samples}
 use Rattle.replay_engine.specs.Start.{first_present, lone_present, lone_sample_of, irqs_of}
 use Rattle.replay_engine.specs.Tasks.{PresentState}
 use Rattle.replay_engine.specs.View.{View, Plan, after_bringing, after_freeing, after_command}
@@ -47,6 +47,10 @@ RunsJoin = (s : Subject) (irqs : List Irq) (m n : ℕ) (p : PresentState) →
 -- a task is on a hart by the fold over the commands exactly where it is in words
 abbrev pub PlacesAreTold : Type 0
 PlacesAreTold = (cs : List Command) (t h : ℕ) → (place_after cs t ≡ Some h) ↔ IsOn cs t h
+
+-- and so is who is on a hart
+abbrev pub ResidentsAreTold : Type 0
+ResidentsAreTold = (cs : List Command) (t h : ℕ) → (resident_after cs h ≡ Some t) ↔ IsOn cs t h
 
 -- where engine and harts stand for commands, each task is in its lone run, at its own count
 abbrev pub StatesAreLone : Type 0
@@ -85,7 +89,7 @@ CountsLoosen = (a b s q n m : ℕ) (v : View) → a ≤ b → s ≤ q → n ≤ 
 abbrev pub RefusalsAgree : Type 0
 RefusalsAgree = (plan : Plan) (first : List PresentState) (cs : List Command) (v : View)
     (c : Command) →
-    plan.harts ≤ 16 → ViewStandsFor plan first cs v → refusal plan v c ≡ refusal_after plan cs c
+    plan.harts ≤ 16 → ViewStandsFor plan first cs v → refusal plan v c ≡ command_refusal plan cs c
 
 -- the irq lines of an accepted header are interrupts of its tasks
 abbrev pub HeadersGiveInterrupts : Type 0

@@ -1,6 +1,7 @@
--- What a reader must believe: Samples, Runs, Tasks, View, Start, Stands, Refusals, Breaks and
--- Visible. Irqs, Counts, Engine, Outcome, HartsAt, StandsAfter, Placing, ByLine, Parts and Laws tie
--- functions to them, and say what follows from them.
+-- What a reader must believe: Scheduled with Samples and Start; of Runs is_due, spellings and IsCut;
+-- of Stands the steps, the places and the names of commands; of View Plan and is_at; Refusals with
+-- no_place of Outcome; Breaks; and AreMade of HartSet. docs/definitions.md lists them. All else ties
+-- functions to them, and says what follows from them.
 pub mod Irqs
 pub mod Tasks
 pub mod Samples
@@ -19,4 +20,6 @@ pub mod Placing
 pub mod Breaks
 pub mod Visible
 pub mod ByLine
+pub mod Scheduled
+pub mod HartSet
 pub mod Laws

@@ -11,13 +11,13 @@ use Rattle.replay_engine.specs.View.{Plan}
 use Rattle.replay_engine.specs.Outcome.{no_place}
 use Rattle.replay_engine.specs.Stands.{place_after, resident_after}
 
-abbrev pub refusal_after : Plan → List Command → Command → Option PerformFault
-refusal_after plan cs (Run h t n) =
+abbrev pub command_refusal : Plan → List Command → Command → Option PerformFault
+command_refusal plan cs (Run h t n) =
     if nat_lt t (length plan.tasks) then (if nat_lt h plan.harts then None else Some NoHart)
     else Some NoTask
-refusal_after plan cs (Sampled t) =
+command_refusal plan cs (Sampled t) =
     if nat_lt t (length plan.tasks) then no_place (Some (place_after cs t))
     NotResident else Some NoTask
-refusal_after plan cs (Evict h) =
+command_refusal plan cs (Evict h) =
     if nat_lt h plan.harts then no_place (Some (resident_after cs h)) EmptyHart else Some NoHart
-refusal_after plan cs End = None
+command_refusal plan cs End = None

@@ -1,5 +1,5 @@
 -- The sample of a task (`perf_event.h`, PERF_RECORD_SAMPLE).
-use Rattle.std.specs.Prelude.{ℕ, ◌+◌, ◌*◌, ◌-◌, ◌%◌, ◌^◌, List, map, length, nat_eq, if◌then◌else◌}
+use Rattle.std.specs.Prelude.{ℕ, ◌+◌, ◌-◌, ◌%◌, ◌^◌, List, map, length, nat_eq, if◌then◌else◌}
 use Rattle.ctr_csrs.specs.declared.mode.Mode.{Mode}
 use Rattle.ctr_csrs.specs.declared.mode.Mode.TheVariants as modes
 use Rattle.ctr_csrs.specs.Depths.{entries_of}
@@ -15,6 +15,7 @@ use Rattle.perf_sample.specs.declared.sample.Sample.{Sample}
 use Rattle.perf_sample.specs.Flags.{transfer_branch}
 use Rattle.perf_sample.specs.Layout.{LayoutWords, has}
 use Rattle.rv_hart.specs.Processor.{CoreState}
+use Rattle.task_switch.specs.Costs.{read_cost}
 use Rattle.replay_engine.specs.declared.sampling.Subject.{Subject}
 use Rattle.replay_engine.specs.Tasks.{PresentState}
 
@@ -26,12 +27,12 @@ misc_of modes.Vs = MISC_GUEST_KERNEL
 misc_of modes.Vu = MISC_GUEST_USER
 
 -- an entry as a branch: its addresses without V and MISP, and the flags of its type and MISP
-abbrev pub branch_of : Entry → Branch
-branch_of e = transfer_branch (source_address e) (target_address e) e.kind (is_mispredicted e)
+abbrev pub branch_of_entry : Entry → Branch
+branch_of_entry e = transfer_branch (source_address e) (target_address e) e.kind (is_mispredicted e)
 
 -- those of the entries that hold a transfer, the youngest first
 abbrev pub branches_of : List Entry → List Branch
-branches_of entries = map branch_of (valid_entries entries)
+branches_of entries = map branch_of_entry (valid_entries entries)
 
 -- where the buffer keeps its youngest entry: one before the write pointer, modulo the depth
 abbrev pub youngest_place : Stack → ℕ
@@ -42,25 +43,25 @@ abbrev pub hw_index_of : Stack → ℕ
 hw_index_of s = if nat_eq (length (valid_entries s.slots)) 0 then 2 ^ 64 - 1 else youngest_place s
 
 -- a field that the layout leaves out is 0
-abbrev pub kept : LayoutWords → Place → ℕ → ℕ
-kept layout p value = if has layout p then value else 0
+abbrev pub if_asked : LayoutWords → Place → ℕ → ℕ
+if_asked layout p value = if has layout p then value else 0
 
 -- the sample of a task, of whom, where and how often the subject says, with this core, this record
 -- buffer and so many steps
 abbrev pub sample_by : Subject → CoreState → Stack → ℕ → Sample
 sample_by s core stack steps = record {
   misc = misc_of core.mode;
-  identifier = kept s.layout place.Identifier s.task;
-  ip = kept s.layout place.Ip core.pc;
-  pid = kept s.layout place.Tid (s.task + 1);
-  tid = kept s.layout place.Tid (s.task + 1);
-  time = kept s.layout place.Time steps;
+  identifier = if_asked s.layout place.Identifier s.task;
+  ip = if_asked s.layout place.Ip core.pc;
+  pid = if_asked s.layout place.Tid (s.task + 1);
+  tid = if_asked s.layout place.Tid (s.task + 1);
+  time = if_asked s.layout place.Time steps;
   addr = 0;
-  id = kept s.layout place.Id s.task;
+  id = if_asked s.layout place.Id s.task;
   stream_id = 0;
-  cpu = kept s.layout place.Cpu s.hart;
-  period = kept s.layout place.Period s.period;
-  hw_index = kept s.layout place.HwIndex (hw_index_of stack);
+  cpu = if_asked s.layout place.Cpu s.hart;
+  period = if_asked s.layout place.Period s.period;
+  hw_index = if_asked s.layout place.HwIndex (hw_index_of stack);
   branches = branches_of stack.slots;
 }
 
@@ -73,7 +74,10 @@ sample_of s p = sample_by s p.state.core p.state.unit.stack p.steps
 abbrev pub hw_index_cost : LayoutWords → ℕ
 hw_index_cost layout = if has layout place.HwIndex then 2 else 0
 
--- the accesses of a sample: those; then the depth and the select are read, each entry is selected
--- and its three parts are read, and the select is written back
+-- the accesses of a sample of so many entries: those, and those of reading the stack
+abbrev pub sampling_cost : LayoutWords → ℕ → ℕ
+sampling_cost layout entries = hw_index_cost layout + read_cost entries
+
+-- of a present state
 abbrev pub sample_cost : LayoutWords → PresentState → ℕ
-sample_cost layout p = hw_index_cost layout + (3 + 4 * entries_of p.state.unit.stack.depth)
+sample_cost layout p = sampling_cost layout (entries_of p.state.unit.stack.depth)

@@ -1,6 +1,6 @@
 -- An engine and its harts after some commands, told from the commands and the lone runs of the
 -- tasks alone.
-use Rattle.std.specs.Prelude.{◌≡◌, ℕ, zero, suc, ◌+◌, ◌*◌, ◌<◌, Bool, false, cond, nat_eq, List, []}
+use Rattle.std.specs.Prelude.{◌≡◌, ℕ, zero, suc, ◌+◌, ◌<◌, Bool, false, cond, nat_eq, List, []}
 use Rattle.std.specs.Prelude.{◌∷◌, ◌++◌, fold, length, slice_get, Option, Some, None}
 use Rattle.std.specs.List.{sum_by, list_any}
 use Rattle.ctr_csrs.specs.Depths.{entries_of}
@@ -8,11 +8,12 @@ use Rattle.perf_sample.specs.declared.sample.Sample.{Sample}
 use Rattle.replay_engine.specs.declared.sampling.Subject.{Subject}
 use Rattle.rv_hart.specs.Hart.{HartState, fresh_hart}
 use Rattle.rv_hart.specs.Task.{Irq}
+use Rattle.task_switch.specs.Costs.{save_cost, restore_cost}
 use Rattle.sched_text.specs.declared.schedule.Command.{Command}
 use Rattle.sched_text.specs.declared.schedule.Command.TheVariants.{Run, Sample as Sampled, Evict}
 use Rattle.sched_text.specs.declared.schedule.Command.TheVariants.{End}
 use Rattle.replay_engine.specs.Tasks.{TaskState, PresentState, AreInverse}
-use Rattle.replay_engine.specs.Samples.{sample_of, hw_index_cost}
+use Rattle.replay_engine.specs.Samples.{sample_of, sampling_cost}
 use Rattle.replay_engine.specs.Runs.{present_after, sampling_costs, due_sample}
 use Rattle.replay_engine.specs.declared.plan.Orders.{Orders}
 use Rattle.replay_engine.specs.View.{View, Plan, view_of, subject_of, is_at}
@@ -69,13 +70,13 @@ task_depth plan first cs t =
 -- the accesses of saving the task that is on a hart
 abbrev pub leaving : (ℕ → ℕ) → Option ℕ → ℕ
 leaving depth None = 0
-leaving depth (Some u) = 5 + 4 * depth u
+leaving depth (Some u) = save_cost (depth u)
 
 -- and those at a hart of bringing a task to a hart
 abbrev pub bringing : (ℕ → ℕ) → Option ℕ → Option ℕ → ℕ → ℕ → ℕ → ℕ
 bringing depth q r t h k = cond (is_at q h) 0
-    (cond (is_at q k) (5 + 4 * depth t) 0 + cond (nat_eq k h) (leaving depth r + (6 + 4 * depth t))
-    0)
+    (cond (is_at q k) (save_cost (depth t)) 0
+    + cond (nat_eq k h) (leaving depth r + restore_cost (depth t)) 0)
 
 -- the accesses of the samples of a run, in the lone run of the task
 abbrev pub run_costs : Option PresentState → Option Orders → Plan → ℕ → ℕ → ℕ → ℕ → ℕ
@@ -92,7 +93,7 @@ cost plan first before (Run g t n) h =
     (own_steps before t) n) 0
 cost plan first before (Sampled t) h =
     cond (is_at (place_after before t) h)
-    (hw_index_cost plan.layout + (3 + 4 * task_depth plan first before t)) 0
+    (sampling_cost plan.layout (task_depth plan first before t)) 0
 cost plan first before (Evict g) h =
     cond (nat_eq h g) (leaving (task_depth plan first before) (resident_after before g)) 0
 cost plan first before End h = 0

@@ -10,7 +10,7 @@ use Rattle.sched_text.specs.declared.schedule.Command.TheVariants.{End}
 use Rattle.replay_engine.specs.declared.fault.PerformFault.{PerformFault}
 use Rattle.replay_engine.specs.declared.fault.PerformFault.TheVariants.{NoTask, NoHart, NotResident}
 use Rattle.replay_engine.specs.declared.fault.PerformFault.TheVariants.{EmptyHart, Write}
-use Rattle.replay_engine.specs.Refusals.{refusal_after}
+use Rattle.replay_engine.specs.Refusals.{command_refusal}
 use Rattle.replay_engine.specs.Runs.{spellings, IsCut}
 use Rattle.replay_engine.specs.Stands.{StandsFor, scheduled_of}
 use Rattle.replay_engine.specs.Tasks.{TaskState, PresentState}
@@ -63,13 +63,13 @@ abbrev pub StandsAfter : {K : Type 0} → (K → List ℕ → K → Type 0) → 
     Result (Unit {0}) PerformFault → Type 0
 StandsAfter gained old new plan first cs ts hs c (Ok _) =
     StandsForMore gained old new plan first cs ts hs c
-StandsAfter gained old new plan first cs ts hs c (Err NoTask) = refusal_after plan cs c
+StandsAfter gained old new plan first cs ts hs c (Err NoTask) = command_refusal plan cs c
     ≡ Some NoTask
-StandsAfter gained old new plan first cs ts hs c (Err NoHart) = refusal_after plan cs c
+StandsAfter gained old new plan first cs ts hs c (Err NoHart) = command_refusal plan cs c
     ≡ Some NoHart
-StandsAfter gained old new plan first cs ts hs c (Err NotResident) = refusal_after plan cs c
+StandsAfter gained old new plan first cs ts hs c (Err NotResident) = command_refusal plan cs c
     ≡ Some NotResident
-StandsAfter gained old new plan first cs ts hs c (Err EmptyHart) = refusal_after plan cs c
+StandsAfter gained old new plan first cs ts hs c (Err EmptyHart) = command_refusal plan cs c
     ≡ Some EmptyHart
 StandsAfter gained old new plan first cs ts hs c (Err Write) =
     StandsCutOff gained old new plan first cs ts hs c

@@ -8,6 +8,7 @@ use Rattle.ctr_csrs.specs.declared.depth.Depth.{Depth}
 use Rattle.ctr_csrs.specs.declared.depth.Depth.TheVariants.{D16}
 use Rattle.ctr_csrs.specs.Depths.{depth_at, entries_of}
 use Rattle.perf_sample.specs.declared.sample.Sample.{Sample}
+use Rattle.perf_sample.specs.Layout.{LayoutWords}
 use Rattle.rv_hart.specs.Lone.{lone_run, first_state}
 use Rattle.rv_hart.specs.Memory.{memory_of}
 use Rattle.rv_hart.specs.Processor.{fresh_core}
@@ -31,12 +32,12 @@ abbrev pub depth_named : ℕ → Depth
 depth_named code = or_least (depth_at code)
 
 -- the step and the cause of a line
-abbrev pub irq_of : IrqLine → Irq
-irq_of line = record { step = line.step; cause = line.cause }
+abbrev pub interrupt_of : IrqLine → Irq
+interrupt_of line = record { step = line.step; cause = line.cause }
 
 -- those of one task, in order
 abbrev pub irqs_of : ℕ → List IrqLine → List Irq
-irqs_of task lines = map irq_of (lines_of_task task lines)
+irqs_of task lines = map interrupt_of (lines_of_task task lines)
 
 -- the orders of tasks that are numbered from here on
 abbrev pub orders_from : ℕ → List TaskLine → List IrqLine → List Orders
@@ -91,11 +92,15 @@ size_of mem = length mem
 abbrev pub AreMemories : List TaskLine → List (List ℕ) → Type 0
 AreMemories lines mems = map size_of mems ≡ map mem_of lines
 
+-- the layout of the samples
+abbrev pub sample_layout : Header → LayoutWords
+sample_layout h = record { sample_type = h.layout; branch = h.branch }
+
 -- what a header says of the harts, the samples and the tasks
 abbrev pub plan_of : Header → Plan
 plan_of h = record {
   harts = h.harts;
-  layout = record { sample_type = h.layout; branch = h.branch };
+  layout = sample_layout h;
   tasks = orders_from 0 h.tasks h.irqs;
 }
 
@@ -131,7 +136,7 @@ lone_present t n = record { state = (lone_run t n).state; steps = n }
 abbrev pub lone_sample_of : Header → TaskLine → List ℕ → ℕ → ℕ → ℕ → Sample
 lone_sample_of header line image t n h =
     sample_of (record {
-      layout = (plan_of header).layout;
+      layout = sample_layout header;
       task = t;
       hart = h;
       period =

@@ -1,11 +1,12 @@
 -- What a caller sees of an engine and its harts, and what commands make of it.
-use Rattle.std.specs.Prelude.{ℕ, zero, suc, ◌+◌, ◌*◌, Bool, false, cond}
+use Rattle.std.specs.Prelude.{ℕ, zero, suc, ◌+◌, Bool, false, cond}
 use Rattle.std.specs.Prelude.{nat_eq, List, [], ◌∷◌, map, slice_get, slice_set, Option}
 use Rattle.std.specs.Prelude.{Some, None}
 use Rattle.ctr_csrs.specs.Depths.{entries_of}
 use Rattle.perf_sample.specs.declared.sample.Sample.{Sample}
 use Rattle.perf_sample.specs.Layout.{LayoutWords}
 use Rattle.rv_hart.specs.Hart.{HartState}
+use Rattle.task_switch.specs.Costs.{save_cost, restore_cost}
 use Rattle.replay_engine.specs.declared.sampling.Subject.{Subject}
 use Rattle.sched_text.specs.declared.schedule.Command.{Command}
 use Rattle.sched_text.specs.declared.schedule.Command.TheVariants.{Run, Sample as Sampled, Evict}
@@ -62,7 +63,7 @@ after_leaving_by None t h v = v
 after_leaving_by (Some p) t h v = record v {
   places = slice_set v.places t None;
   residents = slice_set v.residents h None;
-  accesses = add_at v.accesses h (5 + 4 * entries_of p.state.unit.stack.depth);
+  accesses = add_at v.accesses h (save_cost (entries_of p.state.unit.stack.depth));
 }
 
 abbrev pub after_leaving : ℕ → ℕ → View → View
@@ -74,7 +75,7 @@ after_arriving_by None t h v = v
 after_arriving_by (Some p) t h v = record v {
   places = slice_set v.places t (Some h);
   residents = slice_set v.residents h (Some t);
-  accesses = add_at v.accesses h (6 + 4 * entries_of p.state.unit.stack.depth);
+  accesses = add_at v.accesses h (restore_cost (entries_of p.state.unit.stack.depth));
 }
 
 abbrev pub after_arriving : ℕ → ℕ → View → View

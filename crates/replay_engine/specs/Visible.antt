@@ -1,52 +1,29 @@
 -- What the samples of a schedule show: the transfers that a lone run leaves unreturned (RISC-V
 -- Control Transfer Records 1.0, "RAS Emulation Mode").
 use Rattle.std.specs.Prelude.{◌≡◌, ℕ, ◌+◌, ◌<◌, ◌≤◌, List, map, slice_get, Some}
-use Rattle.std.specs.List.{All}
 use Rattle.ctr_buffer.specs.declared.event.Event.{Event}
 use Rattle.ctr_buffer.specs.Entry.{Entry}
-use Rattle.ctr_buffer.specs.Visible.{AreVisible, IsUnwritten}
+use Rattle.ctr_buffer.specs.Visible.{AreVisible}
 use Rattle.perf_sample.specs.declared.sample.Sample.{Sample}
-use Rattle.rv_hart.specs.Facts.{IsTask}
-use Rattle.rv_hart.specs.Lone.{lone_run}
 use Rattle.rv_hart.specs.Task.{Task}
 use Rattle.sched_text.specs.declared.schedule.Command.{Command}
 use Rattle.sched_text.specs.declared.schedule.Command.TheVariants.{Run, Sample as Sampled, Evict}
 use Rattle.sched_text.specs.declared.schedule.Command.TheVariants.{End}
 use Rattle.replay_engine.specs.declared.plan.Orders.{Orders}
-use Rattle.replay_engine.specs.declared.sampling.Subject.{Subject}
-use Rattle.replay_engine.specs.Samples.{branch_of, sample_of}
-use Rattle.replay_engine.specs.Stands.{own_steps, place_after, scheduled_of}
-use Rattle.replay_engine.specs.Start.{first_present, lone_present}
-use Rattle.replay_engine.specs.View.{Plan, subject_of}
+use Rattle.replay_engine.specs.Samples.{branch_of_entry}
+use Rattle.replay_engine.specs.Stands.{own_steps, place_after}
+use Rattle.replay_engine.specs.View.{Plan}
 
 -- the branches of a sample are the visible entries of a history, in their order
 pub record ShowsVisible (history : List Event) (x : Sample) : Type 0 where
   pub entries : List Entry
   pub visible : AreVisible history entries
-  pub shown : x.branches ≡ map branch_of entries
-
--- a sample of the lone run of one of these tasks. Where the task's software wrote neither the
--- pointer nor an entry since its buffer was emptied, it shows what the run leaves unreturned
-pub record IsLoneSample (tasks : List Task) (x : Sample) : Type 0 where
-  pub number : ℕ
-  pub task : Task
-  pub steps : ℕ
-  pub subject : Subject
-  pub is_task : slice_get tasks number ≡ Some task
-  pub is : x ≡ sample_of subject (lone_present task steps)
-  pub shows : IsTask task → IsUnwritten (lone_run task steps).history →
-      ShowsVisible (lone_run task steps).history x
+  pub shown : x.branches ≡ map branch_of_entry entries
 
 -- a plan raises the interrupts of these tasks
 abbrev pub IsPlanOf : List Task → Plan → Type 0
 IsPlanOf tasks plan = (t : ℕ) (task : Task) (o : Orders) → slice_get tasks t ≡ Some task →
     slice_get plan.tasks t ≡ Some o → o.irqs ≡ task.irqs
-
--- the samples of a command after others are such samples
-abbrev pub SamplesAreLone : Type 0
-SamplesAreLone = (plan : Plan) (tasks : List Task) (cs : List Command) (c : Command) →
-    IsPlanOf tasks plan →
-    All (IsLoneSample tasks) (scheduled_of plan (map first_present tasks) cs c)
 
 -- after others a command may give a sample of this task on this hart at this own count: a run of
 -- the task on the hart at one of the counts that it comes to, `sample` where the task stands
@@ -57,25 +34,3 @@ GivesAt before (Sampled u) t h k =
     (t ≡ u) × (place_after before t ≡ Some h) × (k ≡ own_steps before t)
 GivesAt before (Evict g) t h k = ⊥
 GivesAt before End t h k = ⊥
-
--- a sample of a command after others is that of the lone run of the command's task, at one of these
--- counts, with the hart's number and the task's period. Where the task's software wrote neither the
--- pointer nor an entry since its buffer was emptied, it shows what the run leaves unreturned
-pub record IsGivenSample (plan : Plan) (tasks : List Task) (before : List Command) (c : Command)
-    (x : Sample) : Type 0 where
-  pub number : ℕ
-  pub hart : ℕ
-  pub steps : ℕ
-  pub task : Task
-  pub orders : Orders
-  pub given : GivesAt before c number hart steps
-  pub is_task : slice_get tasks number ≡ Some task
-  pub is_ordered : slice_get plan.tasks number ≡ Some orders
-  pub is : x ≡ sample_of (subject_of plan hart number orders) (lone_present task steps)
-  pub shows : IsTask task → IsUnwritten (lone_run task steps).history →
-      ShowsVisible (lone_run task steps).history x
-
-abbrev pub SamplesAreGiven : Type 0
-SamplesAreGiven = (plan : Plan) (tasks : List Task) (cs : List Command) (c : Command) →
-    IsPlanOf tasks plan →
-    All (IsGivenSample plan tasks cs c) (scheduled_of plan (map first_present tasks) cs c)

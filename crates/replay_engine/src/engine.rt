@@ -2,9 +2,7 @@
 
 ghost use Rattle.std.specs.Prelude.{[], map, IfOk, ◌≡◌, ℕ, ◌+◌, ◌^◌, List, false};
 ghost use Rattle.ctr_port.specs.Counts.{HasCause};
-ghost use Rattle.std.specs.List.{All};
 ghost use Rattle.rv_hart.specs.Hart.{fresh_harts};
-ghost use Rattle.rv_hart.specs.Task.{Task};
 ghost use Rattle.sched_text.specs.Header.{IsHeader};
 ghost use Rattle.sched_text.specs.Rows.{IsCommand};
 ghost use Rattle.sched_text.specs.declared.limits.TheConstants.{MAX_STEPS};
@@ -12,13 +10,12 @@ ghost use Rattle.sched_text.specs.declared.schedule.Command.{Command};
 ghost use Rattle.replay_engine.specs.Counts.{HasRoom, CountsWithin};
 ghost use Rattle.replay_engine.specs.Engine.{IsEngine};
 ghost use Rattle.replay_engine.specs.Outcome.{IsOutcome, is_write, is_write_fault};
-ghost use Rattle.replay_engine.specs.Stands.{StandsFor, scheduled_of};
+ghost use Rattle.replay_engine.specs.Stands.{StandsFor};
 ghost use Rattle.replay_engine.specs.StandsAfter.{StandsAfter};
 ghost use Rattle.replay_engine.specs.Start.{first_present, AreMemories, fresh_engine, memories};
 ghost use Rattle.replay_engine.specs.Start.{tasks_of_lines};
 ghost use Rattle.replay_engine.specs.Tasks.{PresentState, PlacesAgree, present_states};
 ghost use Rattle.replay_engine.specs.View.{view_of};
-ghost use Rattle.replay_engine.specs.Visible.{IsLoneSample, IsGivenSample, IsPlanOf};
 
 use crate::fault::PerformFault;
 use crate::performing::{attempt, is_write};
@@ -27,7 +24,7 @@ use crate::sampling::SampleRoom;
 use crate::starting::{TaskMems, first_tasks, layout_of, orders_of};
 use crate::tasks::Tasks;
 use ctr_port::{NoMemory, Sink};
-use rv_hart::{Harts, lone_run_laws, step_laws};
+use rv_hart::{Harts, step_laws};
 use sched_text::{Command, Header};
 use std::alloc::Global;
 use std::marker::Model;
@@ -143,22 +140,8 @@ impl Engine {
             StandsFor self.old.plan first commands self.old.tasks harts.old →
             StandsAfter K.gained sink.old sink.new self.old.plan first commands
             self.new.tasks harts.new command result }
-
-        // Each of these samples is one of a lone run, and shows what the run leaves unreturned,
-        // where the task's software wrote neither the pointer nor an entry since its buffer was
-        // emptied.
-        ensures visible { (tasks : List Task) (commands : List Command) →
-            IsPlanOf tasks self.old.plan → All (IsLoneSample tasks)
-            (scheduled_of self.old.plan (map first_present tasks) commands command) }
-
-        // And it is that of the task, the hart and an own count that the command says.
-        ensures given { (tasks : List Task) (commands : List Command) →
-            IsPlanOf tasks self.old.plan →
-            All (IsGivenSample self.old.plan tasks commands command)
-            (scheduled_of self.old.plan (map first_present tasks) commands command) }
     {
         step_laws();
-        lone_run_laws();
         let result = attempt(
             &self.plan,
             &mut self.tasks,

@@ -3,13 +3,13 @@
 ghost use Rattle.std.specs.Prelude.{ℕ, List};
 ghost use Rattle.replay_engine.specs.Breaks.{AcceptedOrBroken};
 ghost use Rattle.replay_engine.specs.ByLine.{PlansSayHeaders, HeadersGiveTasks};
-ghost use Rattle.replay_engine.specs.ByLine.{HeadersGiveSoundTasks, CommandsGiveLoneSamples};
+ghost use Rattle.replay_engine.specs.ByLine.{HeadersGiveSoundTasks};
 ghost use Rattle.replay_engine.specs.HartsAt.{StandingHartsAreAt, ResidentsAreLone};
 ghost use Rattle.replay_engine.specs.Laws.{MovesKeepStates, PresentsAreSteps, RunsJoin};
-ghost use Rattle.replay_engine.specs.Laws.{PlacesAreTold, StatesAreLone, SamplesJoin};
-ghost use Rattle.replay_engine.specs.Laws.{SamplesAreOwn, CommandsAddLittle, CountsLoosen};
-ghost use Rattle.replay_engine.specs.Laws.{RefusalsAgree, HeadersGiveInterrupts};
-ghost use Rattle.replay_engine.specs.Visible.{SamplesAreLone, SamplesAreGiven};
+ghost use Rattle.replay_engine.specs.Laws.{PlacesAreTold, ResidentsAreTold, StatesAreLone};
+ghost use Rattle.replay_engine.specs.Laws.{SamplesJoin, SamplesAreOwn, CommandsAddLittle};
+ghost use Rattle.replay_engine.specs.Laws.{CountsLoosen, RefusalsAgree, HeadersGiveInterrupts};
+ghost use Rattle.replay_engine.specs.Scheduled.{SamplesAreLone, HartsAreLone, SamplesAreGiven};
 
 use rv_hart::lone_run_laws;
 
@@ -23,8 +23,10 @@ pub fn engine_laws()
     ensures steps { PresentsAreSteps }
     ensures runs { RunsJoin }
 
-    // Where a task is after commands, and which command is refused after them.
+    // Where a task is after commands and who is on a hart, and which command is refused after
+    // them.
     ensures places { PlacesAreTold }
+    ensures on_harts { ResidentsAreTold }
     ensures refusals { RefusalsAgree }
 
     // Where engine and harts stand for commands, each task is in its lone run, at its own count.
@@ -42,12 +44,19 @@ pub fn engine_laws()
     ensures own { SamplesAreOwn }
 
     // What a header says of the harts, the samples and each task, and the tasks that it gives with
-    // their images, each told of the task's own line; and the samples that a command gives of a
-    // task, at the multiples of its period.
+    // their images, each told of the task's own line.
     ensures plans { PlansSayHeaders }
     ensures tasks { HeadersGiveTasks }
     ensures sound { HeadersGiveSoundTasks }
-    ensures scheduled { CommandsGiveLoneSamples }
+
+    // The samples and the harts of commands, told of the header, the images and the lone runs.
+    ensures scheduled { SamplesAreLone }
+    ensures lone_harts { HartsAreLone }
+
+    // Each sample is that of the task, the hart and an own count that its command says. Where the
+    // software of the task wrote neither the pointer nor an entry since its buffer was emptied, it
+    // shows the transfers that its history leaves unreturned, in their order.
+    ensures given { SamplesAreGiven }
 
     // How far one command moves the counts.
     ensures counts { CommandsAddLittle }
@@ -59,14 +68,6 @@ pub fn engine_laws()
 
     // A schedule is accepted, or one line of it is refused first.
     ensures breaks { (text : List ℕ) → AcceptedOrBroken text }
-
-    // The samples of a command are those of lone runs. Where the software of a task wrote neither
-    // the pointer nor an entry since its buffer was emptied, its sample shows the transfers that
-    // its history leaves unreturned, in their order.
-    ensures visible { SamplesAreLone }
-
-    // Each is that of the task, the hart and an own count that the command says.
-    ensures given { SamplesAreGiven }
 {
     lone_run_laws();
 }

@@ -3,6 +3,7 @@
 
 mod engine;
 mod fault;
+mod hart_set;
 mod irqs;
 mod laws;
 mod moving;
@@ -16,5 +17,6 @@ mod tasks;
 
 pub use engine::Engine;
 pub use fault::PerformFault;
+pub use hart_set::HartSet;
 pub use laws::engine_laws;
 pub use starting::TaskMems;

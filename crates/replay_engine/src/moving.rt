@@ -1,6 +1,7 @@
 // A task comes to a hart and leaves it.
 ghost use Rattle.std.specs.Prelude.{◌≡◌, ◌+◌, ◌*◌, ◌≤◌, ◌^◌, Some, None};
 ghost use Rattle.ctr_csrs.specs.Depths.{entries_of};
+ghost use Rattle.task_switch.specs.Costs.{save_cost, restore_cost};
 ghost use Rattle.task_switch.specs.SaveArea.{area_of, unit_in, IsWhole};
 ghost use Rattle.task_switch.specs.WhilePassing.{with_last_select};
 
@@ -14,7 +15,7 @@ pub(crate) fn take_off(hart: &mut Hart<Store>, task: &mut Task)
     ensures hart { hart.new ≡ record hart.old {
       core = task.old.core;
       unit = with_last_select hart.old.unit;
-      accesses = hart.old.accesses + (5 + 4 * entries_of hart.old.unit.stack.depth);
+      accesses = hart.old.accesses + save_cost (entries_of hart.old.unit.stack.depth);
       resident = None;
     } }
     ensures task { task.new ≡ record task.old {
@@ -40,7 +41,7 @@ pub(crate) fn put_on(hart: &mut Hart<Store>, h: u8, task: &mut Task, t: u8)
       unit =
           unit_in task.old.area;
       accesses =
-          hart.old.accesses + (6 + 4 * entries_of task.old.area.depth);
+          hart.old.accesses + restore_cost (entries_of task.old.area.depth);
       resident = Some t;
     } }
     ensures task { task.new ≡ record task.old { core = hart.old.core; place = Some h } }

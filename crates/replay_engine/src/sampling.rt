@@ -9,7 +9,8 @@ ghost use Rattle.perf_sample.specs.Sample.{blank};
 ghost use Rattle.perf_sample.specs.Layout.{Fits, FlagsFit};
 ghost use Rattle.perf_sample.specs.Spelling.{spelling};
 ghost use Rattle.perf_sample.specs.declared.faults.Place.TheVariants as place;
-ghost use Rattle.replay_engine.specs.Samples.{misc_of, branch_of, kept, youngest_place};
+ghost use Rattle.task_switch.specs.Costs.{read_cost};
+ghost use Rattle.replay_engine.specs.Samples.{misc_of, branch_of_entry, if_asked, youngest_place};
 ghost use Rattle.replay_engine.specs.Samples.{hw_index_cost, sample_by};
 
 use ctr_buffer::Slot;
@@ -71,7 +72,7 @@ fn misc(mode: Mode) -> u16
 
 // An entry as a branch.
 fn branch(slot: Slot) -> Branch
-    ensures value { result ≡ branch_of slot }
+    ensures value { result ≡ branch_of_entry slot }
     ensures flags { result.flags < 2 ^ 33 }
 {
     Branch::of_transfer(
@@ -84,7 +85,7 @@ fn branch(slot: Slot) -> Branch
 
 // Makes branches those of entries, in the same order.
 fn put_branches(slots: &Slots, branches: &mut Branches)
-    ensures items { branches.new ≡ map branch_of slots.now }
+    ensures items { branches.new ≡ map branch_of_entry slots.now }
     ensures flags { FlagsFit branches.new }
 {
     branches.clear();
@@ -95,14 +96,14 @@ fn put_branches(slots: &Slots, branches: &mut Branches)
 
 // A field of 64 bits as the layout keeps it.
 fn keep(layout: Layout, place: Place, value: u64) -> u64
-    ensures { result ≡ kept layout place value }
+    ensures { result ≡ if_asked layout place value }
 {
     if layout.has(place) { value } else { 0 }
 }
 
 // A field of 32 bits as the layout keeps it.
 fn keep_half(layout: Layout, place: Place, value: u32) -> u32
-    ensures { result ≡ kept layout place value }
+    ensures { result ≡ if_asked layout place value }
 {
     if layout.has(place) { value } else { 0 }
 }
@@ -126,7 +127,7 @@ fn read_youngest_place<P: CtrPort>(port: &mut P) -> u64
 // The same as the layout keeps it, read where the layout has it.
 fn read_hw_index(hart: &mut Hart<Store>, layout: Layout) -> u64
     requires { hart.old.accesses ≤ 2 ^ 62 }
-    ensures place { result ≡ kept layout place.HwIndex (youngest_place hart.old.unit.stack) }
+    ensures place { result ≡ if_asked layout place.HwIndex (youngest_place hart.old.unit.stack) }
     ensures hart { hart.new ≡ record hart.old {
       accesses =
           hart.old.accesses + hw_index_cost layout;
@@ -142,7 +143,7 @@ fn read_hw_index(hart: &mut Hart<Store>, layout: Layout) -> u64
 // The field hw_index, where the youngest entry that holds a transfer, if there is one, lies at a
 // place.
 fn hw_index(layout: Layout, slots: &Slots, youngest: u64) -> u64
-    ensures { result ≡ (if nat_eq (length slots.now) 0 then kept layout place.HwIndex (2 ^ 64 - 1)
+    ensures { result ≡ (if nat_eq (length slots.now) 0 then if_asked layout place.HwIndex (2 ^ 64 - 1)
         else youngest) }
 {
     if slots.items().is_empty() {
@@ -167,7 +168,7 @@ fn fill(
     ensures hart { hart.new ≡ record hart.old {
       accesses =
           hart.old.accesses + (hw_index_cost subject.now.layout +
-          (3 + 4 * entries_of hart.old.unit.stack.depth));
+          read_cost (entries_of hart.old.unit.stack.depth));
     } }
 {
     let layout = subject.layout;
@@ -232,7 +233,7 @@ pub(crate) fn write_sample<K: Sink>(
     ensures hart { hart.new ≡ record hart.old {
       accesses =
           hart.old.accesses + (hw_index_cost subject.now.layout +
-          (3 + 4 * entries_of hart.old.unit.stack.depth));
+          read_cost (entries_of hart.old.unit.stack.depth));
     } }
     ensures later { K.faults sink.old ≤ K.faults sink.new }
     ensures cause { OnErr result (Rose (K.faults sink.old) (K.faults sink.new)) }

@@ -1,5 +1,5 @@
 // The tasks of a schedule before the first command.
-ghost use Rattle.std.specs.Prelude.{[], ◌∷◌, ◌++◌, OnOk, ◌≡◌, ℕ, ◌≤◌, List, length, All, IfOk};
+ghost use Rattle.std.specs.Prelude.{[], ◌∷◌, ◌++◌, OnOk, OnErr, ◌≡◌, ℕ, ◌≤◌, List, length, All, IfOk};
 ghost use Rattle.rv_hart.specs.Task.{Irq};
 ghost use Rattle.perf_sample.specs.Layout.{IsLayout, IsBranchWord};
 ghost use Rattle.sched_text.specs.Rows.{IsTask};
@@ -47,9 +47,17 @@ impl TaskMems {
         }
     }
 
-    /// Adds the memory of the next task.
+    /// The memories, in order.
+    pub fn items(&self) -> &[TaskMem]
+        ensures { result.now ≡ self.now }
+    {
+        self.list.as_slice()
+    }
+
+    /// Adds the memory of the next task, or leaves those before as they are.
     pub fn push(&mut self, mem: TaskMem) -> Result<(), NoMemory>
         ensures ok { OnOk result (self.new ≡ self.old ++ mem ∷ []) }
+        ensures err { OnErr result (self.new ≡ self.old) }
     {
         self.list.push(mem)?;
         Ok(())

@@ -4,6 +4,7 @@ ghost use Rattle.std.specs.Prelude.{length, slice_get, slice_set};
 ghost use Rattle.std.specs.List.{All};
 ghost use Rattle.ctr_csrs.specs.Depths.{entries_of};
 ghost use Rattle.rv_hart.specs.Hart.{HartState};
+ghost use Rattle.task_switch.specs.Costs.{save_cost, restore_cost};
 ghost use Rattle.task_switch.specs.SaveArea.{area_of, unit_in};
 ghost use Rattle.task_switch.specs.WhilePassing.{with_last_select};
 ghost use Rattle.replay_engine.specs.Counts.{HasRoom};
@@ -76,7 +77,7 @@ impl Tasks {
               unit =
                   with_last_select y.unit;
               accesses =
-                  y.accesses + (5 + 4 * entries_of y.unit.stack.depth);
+                  y.accesses + save_cost (entries_of y.unit.stack.depth);
               resident = None;
             }) }
         ensures holds { (y : HartState) → slice_get harts.old h ≡ Some y → unit_in (area_of y.unit)
@@ -99,7 +100,7 @@ impl Tasks {
               core = x.core;
               unit = unit_in x.area;
               accesses =
-                  y.accesses + (6 + 4 * entries_of x.area.depth);
+                  y.accesses + restore_cost (entries_of x.area.depth);
               resident = Some t;
             }) }
     {

@@ -4,6 +4,7 @@ ghost use Rattle.std.specs.Prelude.{◌≡◌, ◌≤◌, ◌+◌, ◌*◌, ◌^
 ghost use Rattle.ctr_csrs.specs.Depths.{entries_of};
 ghost use Rattle.ctr_csrs.specs.StatusFigure.{pointer_in, frozen_in};
 ghost use Rattle.ctr_buffer.specs.Entry.{zero_entry};
+ghost use Rattle.task_switch.specs.Costs.{restore_cost};
 ghost use Rattle.task_switch.specs.SaveArea.{unit_in, IsWhole};
 ghost use Rattle.task_switch.specs.WhilePassing.{filled};
 
@@ -18,7 +19,7 @@ pub fn restore<P: CtrPort>(port: &mut P, area: &SaveArea)
     requires room { P.count port.old ≤ 2 ^ 62 }
     requires whole { IsWhole area.now }
     ensures unit { P.unit port.new ≡ unit_in area.now }
-    ensures count { P.count port.new ≡ P.count port.old + (6 + 4 * entries_of area.now.depth) }
+    ensures count { P.count port.new ≡ P.count port.old + restore_cost (entries_of area.now.depth) }
     ensures rest { P.same_rest port.old port.new }
 {
     empty_to(port, area.depth);

@@ -2,6 +2,7 @@
 
 ghost use Rattle.std.specs.Prelude.{◌≡◌, ◌≤◌, ◌+◌, ◌*◌, ◌^◌, take, length};
 ghost use Rattle.ctr_csrs.specs.Depths.{entries_of};
+ghost use Rattle.task_switch.specs.Costs.{save_cost};
 ghost use Rattle.task_switch.specs.SaveArea.{area_of, unit_in, IsWhole};
 ghost use Rattle.task_switch.specs.WhilePassing.{passed, with_last_select};
 
@@ -20,7 +21,7 @@ pub fn save<P: CtrPort>(port: &mut P, area: &mut SaveArea)
     ensures whole { IsWhole area.new }
     ensures unit { P.unit port.new ≡ with_last_select (P.unit port.old) }
     ensures count { P.count port.new
-        ≡ P.count port.old + (5 + 4 * entries_of (P.unit port.old).stack.depth) }
+        ≡ P.count port.old + save_cost (entries_of (P.unit port.old).stack.depth) }
     ensures rest { P.same_rest port.old port.new }
 {
     area.depth = read_depth(port);

@@ -3,6 +3,7 @@
 ghost use Rattle.std.specs.Prelude.{◌≡◌, ◌≤◌, ◌<◌, ◌+◌, ◌*◌, ◌^◌, ◌++◌, ◌∷◌, [], take, length};
 ghost use Rattle.ctr_csrs.specs.Depths.{entries_of};
 ghost use Rattle.ctr_buffer.specs.Entry.{valid_entries};
+ghost use Rattle.task_switch.specs.Costs.{read_cost};
 ghost use Rattle.task_switch.specs.WhilePassing.{passed};
 
 use crate::entry::{read_depth, read_entry};
@@ -18,7 +19,7 @@ pub fn read_stack<P: CtrPort>(port: &mut P) -> Slots
     ensures slots { result ≡ valid_entries (P.unit port.old).stack.slots }
     ensures unit { P.unit port.new ≡ P.unit port.old }
     ensures count { P.count port.new
-        ≡ P.count port.old + (3 + 4 * entries_of (P.unit port.old).stack.depth) }
+        ≡ P.count port.old + read_cost (entries_of (P.unit port.old).stack.depth) }
     ensures rest { P.same_rest port.old port.new }
 {
     let mut slots = Slots::new();
@@ -33,7 +34,7 @@ pub fn read_stack_into<P: CtrPort>(port: &mut P, slots: &mut Slots)
     ensures slots { slots.new ≡ valid_entries (P.unit port.old).stack.slots }
     ensures unit { P.unit port.new ≡ P.unit port.old }
     ensures count { P.count port.new
-        ≡ P.count port.old + (3 + 4 * entries_of (P.unit port.old).stack.depth) }
+        ≡ P.count port.old + read_cost (entries_of (P.unit port.old).stack.depth) }
     ensures rest { P.same_rest port.old port.new }
 {
     let depth = read_depth(port);

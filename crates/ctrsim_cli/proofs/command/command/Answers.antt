@@ -1,34 +1,23 @@
-use Rattle.std.proofs.Common.{ℕ, subst}
-use Rattle.perf_sample.specs.Layout.{LayoutWords}
-use Rattle.ctrsim_cli.specs.Demo.{DemoEnds}
-use Rattle.ctrsim_cli.specs.ShowEnds.{ShowEnds, ShowsBytes}
-use Rattle.ctrsim_cli.specs.Words.{IsAsked, IsShow, IsDemo}
+use Rattle.std.proofs.Common.{subst}
+use Rattle.ctrsim_cli.specs.Does.{Does, DoesOnHarts, LeavesSource}
 use Rattle.ctrsim_cli.specs.declared.words.Word.{Word}
-use Rattle.ctrsim_cli.proofs.ShowLaws.{one_layout, one_number}
+use Rattle.ctrsim_cli.proofs.ShowLaws.{one_word, within_asked}
 use Rattle.ctrsim_cli.proofs.command.command.Goals as goal
 
-pub returns-in-Show-clause-show : goal.returns-in-Show-clause-show
-returns-in-Show-clause-show g c = λ layout show.
-    let asked : IsShow c.args.words.now c.in-Show.layout =
-    subst (λ (w : Word). IsAsked c.args.words.now w) c.in-Show.is c.in-Some.ensures.some in
-    subst
-    (λ (l : LayoutWords). ShowEnds g.K.Sink.gained l (g.S.Source.left c.args.source.now)
-    (g.S.Source.left c.show_all.new.source) c.args.sink.now c.show_all.new.sink c.show_all.result)
-    (one_layout c.args.words.now c.in-Show.layout layout asked show) c.show_all.ensures.ends
+pub follow-requires-clause-within : goal.follow-requires-clause-within
+follow-requires-clause-within g c = within_asked c.args.words.now c.in-Some.word c.in-Some.ensures.some
 
-pub returns-in-Show-clause-bytes : goal.returns-in-Show-clause-bytes
-returns-in-Show-clause-bytes g c = λ layout bytes show told.
-    let asked : IsShow c.args.words.now c.in-Show.layout =
-    subst (λ (w : Word). IsAsked c.args.words.now w) c.in-Show.is c.in-Some.ensures.some in
-    subst
-    (λ (l : LayoutWords). ShowsBytes g.K.Sink.gained l bytes (g.S.Source.left c.show_all.new.source)
-    c.args.sink.now c.show_all.new.sink c.show_all.result)
-    (one_layout c.args.words.now c.in-Show.layout layout asked show)
-    (c.show_all.ensures.bytes bytes told)
+pub returns-in-Some-clause-does : goal.returns-in-Some-clause-does
+returns-in-Some-clause-does g c = λ word asked.
+    subst (λ (w : Word). Does w (g.H.HartSet.tells c.args.harts.now) (g.S.Source.left c.args.source.now) (g.S.Source.left c.follow.new.source) g.K.Sink.gained c.args.sink.now c.follow.new.sink (g.H.HartSet.held c.follow.new.harts) c.follow.result)
+    (one_word c.args.words.now c.in-Some.word word c.in-Some.ensures.some asked) c.follow.ensures.does
 
-pub returns-in-Demo-clause-demo : goal.returns-in-Demo-clause-demo
-returns-in-Demo-clause-demo g c = λ turns demo.
-    let asked : IsDemo c.args.words.now c.in-Demo.turns =
-    subst (λ (w : Word). IsAsked c.args.words.now w) c.in-Demo.is c.in-Some.ensures.some in
-    subst (λ (n : ℕ). DemoEnds g.K.Sink.gained c.args.sink.now c.demo.new.sink c.demo.new.harts n c.demo.result)
-    (one_number c.args.words.now c.in-Demo.turns turns asked demo) c.demo.ensures.ends
+pub returns-in-Some-clause-on_harts : goal.returns-in-Some-clause-on_harts
+returns-in-Some-clause-on_harts g c = λ word asked.
+    subst (λ (w : Word). DoesOnHarts g.H.HartSet.performed w g.K.Sink.gained c.args.harts.now c.follow.new.harts c.args.sink.now c.follow.new.sink c.follow.result)
+    (one_word c.args.words.now c.in-Some.word word c.in-Some.ensures.some asked) c.follow.ensures.on_harts
+
+pub returns-in-Some-clause-source_stays : goal.returns-in-Some-clause-source_stays
+returns-in-Some-clause-source_stays g c = λ word asked.
+    subst (λ (w : Word). LeavesSource w c.args.source.now c.follow.new.source)
+    (one_word c.args.words.now c.in-Some.word word c.in-Some.ensures.some asked) c.follow.ensures.source_stays

@@ -10,7 +10,7 @@ loop-preserved c =
     let n = c.loop.counter in
     record {
       most = omega (arith, c.loop-test.true);
-      are = c.in_ok-add_memory.ensures ∙ ap (λ (ms : List (List ℕ)). ms ++ memory_of demo_image 12 ∷ []) c.loop.invariant.are ∙ sym (demo_memories_more n);
+      are = c.in_ok-add_memory.ensures.added ∙ ap (λ (ms : List (List ℕ)). ms ++ memory_of demo_image 12 ∷ []) c.loop.invariant.are ∙ sym (demo_memories_more n);
     }
 
 pub returns : goal.returns

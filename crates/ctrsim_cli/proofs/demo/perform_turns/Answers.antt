@@ -1,82 +1,74 @@
-use Rattle.std.proofs.Common.{◌≡◌, ℕ, ◌+◌, ◌*◌, ◌^◌, List, [], ◌∷◌, ◌++◌, sym, ap, ◌∙◌, subst, arith}
-use Rattle.std.specs.Prelude.{None}
-use Rattle.replay_engine.specs.Refusals.{refusal_after}
-use Rattle.replay_engine.specs.Stands.{StandsFor}
-use Rattle.replay_engine.specs.View.{Plan}
+use Rattle.std.proofs.Common.{◌≡◌, refl, ℕ, ◌+◌, List, [], ◌∷◌, ◌++◌, length-append, sym, ap, ◌∙◌, subst, arith}
+use Rattle.std.specs.Prelude.{None, Err}
+use Rattle.replay_engine.specs.Refusals.{command_refusal}
 use Rattle.sched_text.specs.declared.schedule.Command.{Command}
-use Rattle.ctrsim_cli.specs.Demo.{turns, run_of_turn, sample_of_turn}
+use Rattle.ctrsim_cli.specs.Demo.{demo_header, turns, run_of_turn, sample_of_turn}
 use Rattle.ctrsim_cli.specs.Parts.{Made}
-use Rattle.ctrsim_cli.proofs.DemoLaws.{plan, first, made_none, made_more, room, run_allowed, sample_allowed, never, turns_more}
+use Rattle.ctrsim_cli.proofs.DemoLaws.{plan, images, made_more, run_allowed, sample_allowed, never, turns_length, turns_more}
 use Rattle.ctrsim_cli.proofs.demo.perform_turns.Goals as goal
 
 pub loop-turn-init : goal.loop-turn-init
-loop-turn-init c = record {
+loop-turn-init g c = record {
   most = omega arith;
-  made = made_none c.args.engine.now c.args.harts.now c.new-counter.result c.requires.ready c.requires.fresh c.new-counter.ensures;
+  made = record { bytes = []; chain = (refl, refl, refl); going = c.requires.begun; counted = c.new-counter.ensures };
 }
 
-pub perform-requires-clause-places : goal.perform-requires-clause-places
-perform-requires-clause-places c = c.loop-turn.invariant.made.places
-
-pub perform-requires-clause-broken : goal.perform-requires-clause-broken
-perform-requires-clause-broken c = c.loop-turn.invariant.made.whole
-
-pub perform-requires-clause-room : goal.perform-requires-clause-room
-perform-requires-clause-room c =
-    room c.engine_laws.ensures.loosen (turns c.loop-turn.turn) (2 * c.loop-turn.turn) c.loop-turn.engine c.loop-turn.harts c.loop-turn.counter (omega (arith, c.loop-turn-test.true, c.requires.few)) c.loop-turn.invariant.made
+pub perform-requires-clause-follows : goal.perform-requires-clause-follows
+perform-requires-clause-follows g c =
+    (demo_header, images, turns c.loop-turn.turn, omega (arith, turns_length c.loop-turn.turn, c.loop-turn-test.true, c.requires.few), c.loop-turn.invariant.made.going)
 
 pub unreachable-requires : goal.unreachable-requires
-unreachable-requires c =
+unreachable-requires g c =
     let i = c.loop-turn.turn in
-    let m = c.loop-turn.invariant.made in
-    let e = c.loop-turn.engine in
-    let fits : refusal_after e.plan (turns i) c.run_of.result ≡ None =
-    ap (λ (p : Plan). refusal_after p (turns i) c.run_of.result) m.plan ∙ ap (refusal_after plan (turns i)) c.run_of.ensures ∙ run_allowed (turns i) i in
-    never _ c.loop-turn.counter c.perform.new.sink e.plan first (turns i) c.perform.new.self.tasks c.perform.new.harts c.run_of.result c.in_default.field-0 fits
-    (c.in_default.ensures.stands first (turns i) (subst (λ (p : Plan). StandsFor p first (turns i) e.tasks c.loop-turn.harts) (sym m.plan) m.stands)) c.in_default.ensures.cause
+    let read = c.in_default.ensures.read in
+    let why = c.in_default.field-0 in
+    let fits : command_refusal plan (turns i) c.run_of.result ≡ None = ap (command_refusal plan (turns i)) c.run_of.ensures ∙ run_allowed (turns i) i in
+    never g.H.HartSet.follows g.H.HartSet.tells g.H.HartSet.held demo_header images (turns i) c.run_of.result read.0 c.loop-turn.harts c.perform.new.engine c.perform.new.harts why fits
+    (c.laws.ensures.goes_on demo_header images (turns i) c.loop-turn.engine c.perform.new.engine c.loop-turn.harts c.perform.new.harts c.run_of.result (Err why) read.0 c.loop-turn.invariant.made.going read.1)
+    c.in_default.ensures.cause
 
-pub perform-requires-in-loop-turn-clause-room : goal.perform-requires-in-loop-turn-clause-room
-perform-requires-in-loop-turn-clause-room c =
+pub perform-requires-in-loop-turn-clause-follows : goal.perform-requires-in-loop-turn-clause-follows
+perform-requires-in-loop-turn-clause-follows g c =
     let i = c.loop-turn.turn in
-    let m = c.loop-turn.invariant.made in
-    let run = made_more c.engine_laws.ensures.samples (turns i) (2 * i) c.loop-turn.engine c.perform.new.self c.loop-turn.harts c.perform.new.harts c.loop-turn.counter c.perform.new.sink c.run_of.result m
-    c.perform.ensures.plan c.in-Ok.ensures.broken c.perform.ensures.places (c.perform.ensures.counts (2 ^ 40 * (2 * i)) (1000000000 * (2 * i)) (1000000000 * (2 * i)) m.counts) (c.in-Ok.ensures.stands first (turns i)) in
-    room c.engine_laws.ensures.loosen (turns i ++ c.run_of.result ∷ []) (2 * i + 1) c.perform.new.self c.perform.new.harts c.perform.new.sink (omega (arith, c.loop-turn-test.true, c.requires.few)) run
+    let read = c.in-Ok.ensures.read in
+    let run = made_more g.H.HartSet.follows g.H.HartSet.performed g.H.HartSet.tells g.H.HartSet.held c.laws.ensures.goes_on c.args.engine.now c.args.harts.now c.loop-turn.engine c.perform.new.engine c.loop-turn.harts c.perform.new.harts
+    c.loop-turn.counter c.perform.new.sink (turns i) c.run_of.result read.0 c.loop-turn.invariant.made read.1 read.2 in
+    (demo_header, images, turns i ++ c.run_of.result ∷ [], omega (arith, turns_length i, length-append (turns i) (c.run_of.result ∷ []), c.loop-turn-test.true, c.requires.few), run.going)
 
 pub unreachable-requires-in_default-perform : goal.unreachable-requires-in_default-perform
-unreachable-requires-in_default-perform c =
+unreachable-requires-in_default-perform g c =
     let i = c.loop-turn.turn in
-    let m = c.loop-turn.invariant.made in
-    let e = c.perform.new.self in
     let cs = turns i ++ c.run_of.result ∷ [] in
-    let run = made_more c.engine_laws.ensures.samples (turns i) (2 * i) c.loop-turn.engine c.perform.new.self c.loop-turn.harts c.perform.new.harts c.loop-turn.counter c.perform.new.sink c.run_of.result m
-    c.perform.ensures.plan c.in-Ok.ensures.broken c.perform.ensures.places (c.perform.ensures.counts (2 ^ 40 * (2 * i)) (1000000000 * (2 * i)) (1000000000 * (2 * i)) m.counts) (c.in-Ok.ensures.stands first (turns i)) in
-    let fits : refusal_after e.plan cs c.sample_of.result ≡ None =
-    ap (λ (p : Plan). refusal_after p cs c.sample_of.result) run.plan ∙ ap (refusal_after plan cs) c.sample_of.ensures
-    ∙ ap (λ (x : Command). refusal_after plan (turns i ++ x ∷ []) (sample_of_turn i)) c.run_of.ensures ∙ sample_allowed (turns i) i in
-    never _ c.perform.new.sink c.perform-in-loop-turn.new.sink e.plan first cs c.perform-in-loop-turn.new.self.tasks c.perform-in-loop-turn.new.harts c.sample_of.result c.in_default-perform.field-0 fits
-    (c.in_default-perform.ensures.stands first cs (subst (λ (p : Plan). StandsFor p first cs e.tasks c.perform.new.harts) (sym run.plan) run.stands)) c.in_default-perform.ensures.cause
+    let first = c.in-Ok.ensures.read in
+    let run = made_more g.H.HartSet.follows g.H.HartSet.performed g.H.HartSet.tells g.H.HartSet.held c.laws.ensures.goes_on c.args.engine.now c.args.harts.now c.loop-turn.engine c.perform.new.engine c.loop-turn.harts c.perform.new.harts
+    c.loop-turn.counter c.perform.new.sink (turns i) c.run_of.result first.0 c.loop-turn.invariant.made first.1 first.2 in
+    let read = c.in_default-perform.ensures.read in
+    let why = c.in_default-perform.field-0 in
+    let fits : command_refusal plan cs c.sample_of.result ≡ None =
+    ap (command_refusal plan cs) c.sample_of.ensures
+    ∙ ap (λ (x : Command). command_refusal plan (turns i ++ x ∷ []) (sample_of_turn i)) c.run_of.ensures ∙ sample_allowed (turns i) i in
+    never g.H.HartSet.follows g.H.HartSet.tells g.H.HartSet.held demo_header images cs c.sample_of.result read.0 c.perform.new.harts c.perform-in-loop-turn.new.engine c.perform-in-loop-turn.new.harts why fits
+    (c.laws.ensures.goes_on demo_header images cs c.perform.new.engine c.perform-in-loop-turn.new.engine c.perform.new.harts c.perform-in-loop-turn.new.harts c.sample_of.result (Err why) read.0 run.going read.1)
+    c.in_default-perform.ensures.cause
 
 pub loop-turn-preserved : goal.loop-turn-preserved
-loop-turn-preserved c =
+loop-turn-preserved g c =
     let i = c.loop-turn.turn in
-    let m = c.loop-turn.invariant.made in
     let cs = turns i ++ c.run_of.result ∷ [] in
-    let run = made_more c.engine_laws.ensures.samples (turns i) (2 * i) c.loop-turn.engine c.perform.new.self c.loop-turn.harts c.perform.new.harts c.loop-turn.counter c.perform.new.sink c.run_of.result m
-    c.perform.ensures.plan c.in-Ok.ensures.broken c.perform.ensures.places (c.perform.ensures.counts (2 ^ 40 * (2 * i)) (1000000000 * (2 * i)) (1000000000 * (2 * i)) m.counts) (c.in-Ok.ensures.stands first (turns i)) in
-    let k = 2 * i + 1 in
-    let both = made_more c.engine_laws.ensures.samples cs k c.perform.new.self c.perform-in-loop-turn.new.self c.perform.new.harts c.perform-in-loop-turn.new.harts c.perform.new.sink c.perform-in-loop-turn.new.sink c.sample_of.result run
-    c.perform-in-loop-turn.ensures.plan c.in-Ok-perform.ensures.broken c.perform-in-loop-turn.ensures.places (c.perform-in-loop-turn.ensures.counts (2 ^ 40 * k) (1000000000 * k) (1000000000 * k) run.counts) (c.in-Ok-perform.ensures.stands first cs) in
+    let first = c.in-Ok.ensures.read in
+    let second = c.in-Ok-perform.ensures.read in
+    let run = made_more g.H.HartSet.follows g.H.HartSet.performed g.H.HartSet.tells g.H.HartSet.held c.laws.ensures.goes_on c.args.engine.now c.args.harts.now c.loop-turn.engine c.perform.new.engine c.loop-turn.harts c.perform.new.harts
+    c.loop-turn.counter c.perform.new.sink (turns i) c.run_of.result first.0 c.loop-turn.invariant.made first.1 first.2 in
+    let both = made_more g.H.HartSet.follows g.H.HartSet.performed g.H.HartSet.tells g.H.HartSet.held c.laws.ensures.goes_on c.args.engine.now c.args.harts.now c.perform.new.engine c.perform-in-loop-turn.new.engine c.perform.new.harts c.perform-in-loop-turn.new.harts
+    c.perform.new.sink c.perform-in-loop-turn.new.sink cs c.sample_of.result second.0 run second.1 second.2 in
     let named : cs ++ c.sample_of.result ∷ [] ≡ turns (i + 1) =
     ap (λ (x : Command). (turns i ++ x ∷ []) ++ c.sample_of.result ∷ []) c.run_of.ensures ∙ ap (λ (x : Command). (turns i ++ run_of_turn i ∷ []) ++ x ∷ []) c.sample_of.ensures ∙ sym (turns_more i) in
     record {
       most = omega (arith, c.loop-turn-test.true);
-      made = subst (λ (ds : List Command). Made ds (2 * (i + 1)) c.perform-in-loop-turn.new.self c.perform-in-loop-turn.new.harts c.perform-in-loop-turn.new.sink) named
-          (subst (λ (n : ℕ). Made (cs ++ c.sample_of.result ∷ []) n c.perform-in-loop-turn.new.self c.perform-in-loop-turn.new.harts c.perform-in-loop-turn.new.sink) (omega arith) both);
+      made = subst (λ (ds : List Command). Made g.H.HartSet.follows g.H.HartSet.performed c.args.engine.now c.args.harts.now ds c.perform-in-loop-turn.new.engine c.perform-in-loop-turn.new.harts c.perform-in-loop-turn.new.sink) named both;
     }
 
-pub returns-clause-harts : goal.returns-clause-harts
-returns-clause-harts c =
-    let all : c.loop-turn.turn ≡ c.args.turns = omega (arith, c.loop-turn.invariant.most, c.loop-turn-test.false) in
-    c.engine_laws.ensures.harts plan first (turns c.args.turns) c.loop-turn.engine.tasks c.loop-turn.harts
-    (subst (λ (n : ℕ). StandsFor plan first (turns n) c.loop-turn.engine.tasks c.loop-turn.harts) all c.loop-turn.invariant.made.stands)
+pub returns : goal.returns
+returns g c =
+    let all : c.loop-turn.turn ≡ c.args.number = omega (arith, c.loop-turn.invariant.most, c.loop-turn-test.false) in
+    record { made = subst (λ (n : ℕ). Made g.H.HartSet.follows g.H.HartSet.performed c.args.engine.now c.args.harts.now (turns n) c.loop-turn.engine c.loop-turn.harts c.loop-turn.counter) all c.loop-turn.invariant.made }

@@ -6,10 +6,10 @@ pub returns-clause-one : goal.returns-clause-one
 returns-clause-one c = accepted_as_one c.engine_laws.ensures.breaks
 
 pub returns-clause-lone : goal.returns-clause-lone
-returns-clause-lone c = of_lone_runs c.engine_laws.ensures.visible c.engine_laws.ensures.tasks
+returns-clause-lone c = of_lone_runs c.engine_laws.ensures.given
 
 pub returns-clause-prefix : goal.returns-clause-prefix
-returns-clause-prefix c = written_is_prefix c.engine_laws.ensures.samples
+returns-clause-prefix c = written_is_prefix c.engine_laws.ensures.samples c.engine_laws.ensures.scheduled
 
 pub returns-clause-demo : goal.returns-clause-demo
 returns-clause-demo c = demo_is_accepted

@@ -1,6 +1,7 @@
-use Rattle.std.proofs.Common.{ℕ, List, [], ◌∷◌, ◌++◌, ap, ◌∙◌, take, get_or, arith, refl}
+use Rattle.std.proofs.Common.{ℕ, List, [], ◌∷◌, ◌++◌, ap, ◌∙◌, subst, take, get_or, arith, refl}
 use Rattle.std.proofs.lemmas.Result.{err_from_is_err_and}
 use Rattle.ctr_port.specs.InHand.{text_of}
+use Rattle.rv_hart.specs.Facts.{AreBytes}
 use Rattle.rv_hart.specs.Memory.{memory_of}
 use Rattle.sched_text.specs.Outcomes.{total}
 use Rattle.sched_text.specs.declared.schedule.TaskLine.{TaskLine}
@@ -31,7 +32,7 @@ loop-task-preserved g c =
       ended = c.in_ok-image.ensures.same.2 ∙ inv.ended;
       read = one_more c.loop-task.reader.line i d tasks c.loop-task.mems c.add_memory.new.mems c.in_ok-image.image
           (text_of c.args.reader.now.hand (g.S.Source.left c.args.source.now)) (text_of c.loop-task.reader.hand (g.S.Source.left c.loop-task.source)) (text_of c.image.new.self.hand (g.S.Source.left c.image.new.source))
-          c.loop-task-test.true (omega (arith, c.in_ok-image.ensures.size, (c.requires.tasks i d c.loop-task-test.true).image)) inv.read (c.in_ok-image.ensures.images inv.open_) (c.in-Ok.ensures ∙ ap (λ (bs : List ℕ). c.loop-task.mems ++ memory_of bs (get_or tasks i d).mem ∷ []) c.items.ensures);
+          c.loop-task-test.true (omega (arith, c.in_ok-image.ensures.size, (c.requires.tasks i d c.loop-task-test.true).image)) inv.read (c.in_ok-image.ensures.images inv.open_) (c.in-Ok.ensures.added ∙ ap (λ (bs : List ℕ). c.loop-task.mems ++ memory_of bs (get_or tasks i d).mem ∷ []) c.items.ensures) (subst AreBytes c.items.ensures c.add_memory.ensures.bytes);
       later = omega (arith, inv.later, c.in_ok-image.ensures.cause);
     }
 

@@ -4,10 +4,10 @@ use Rattle.replay_engine.proofs.EngineLaws.{refusals_agree, states_are_lone, sam
 use Rattle.replay_engine.proofs.EngineLaws.{samples_are_own, commands_add_little, counts_loosen}
 use Rattle.replay_engine.proofs.EngineLaws.{headers_give_interrupts}
 use Rattle.replay_engine.proofs.BreakLaws.{accepted_or_broken}
-use Rattle.replay_engine.proofs.VisibleLaws.{samples_are_lone, samples_are_given}
+use Rattle.replay_engine.proofs.ScheduledLaws.{samples_are_lone, harts_are_lone, samples_are_given}
 use Rattle.replay_engine.proofs.LineLaws.{plans_say_headers, headers_give_tasks}
-use Rattle.replay_engine.proofs.LineLaws.{headers_give_sound_tasks, commands_give_lone_samples}
-use Rattle.replay_engine.proofs.PlacingLaws.{places_are_told}
+use Rattle.replay_engine.proofs.LineLaws.{headers_give_sound_tasks}
+use Rattle.replay_engine.proofs.PlacingLaws.{places_are_told, residents_are_told}
 use Rattle.replay_engine.proofs.laws.engine_laws.Goals as goal
 
 pub returns-clause-moves : goal.returns-clause-moves
@@ -49,8 +49,11 @@ returns-clause-harts c = standing_harts_are_at
 pub returns-clause-breaks : goal.returns-clause-breaks
 returns-clause-breaks c = accepted_or_broken
 
-pub returns-clause-visible : goal.returns-clause-visible
-returns-clause-visible c = samples_are_lone c.lone_run_laws.ensures.visible
+pub returns-clause-on_harts : goal.returns-clause-on_harts
+returns-clause-on_harts c = residents_are_told
+
+pub returns-clause-lone_harts : goal.returns-clause-lone_harts
+returns-clause-lone_harts c = harts_are_lone
 
 pub returns-clause-given : goal.returns-clause-given
 returns-clause-given c = samples_are_given c.lone_run_laws.ensures.visible
@@ -68,4 +71,4 @@ pub returns-clause-sound : goal.returns-clause-sound
 returns-clause-sound c = headers_give_sound_tasks
 
 pub returns-clause-scheduled : goal.returns-clause-scheduled
-returns-clause-scheduled c = commands_give_lone_samples
+returns-clause-scheduled c = samples_are_lone

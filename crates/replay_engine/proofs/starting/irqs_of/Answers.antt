@@ -3,7 +3,7 @@ use Rattle.std.proofs.Common.{nat_eq, true}
 use Rattle.std.proofs.lemmas.List.{get_or_default}
 use Rattle.sched_text.specs.declared.schedule.IrqLine.{IrqLine}
 use Rattle.replay_engine.specs.Irqs.{CanFollow, AreIrqs}
-use Rattle.replay_engine.specs.Start.{irq_of, irqs_of}
+use Rattle.replay_engine.specs.Start.{interrupt_of, irqs_of}
 use Rattle.rv_hart.specs.Task.{Irq}
 use Rattle.replay_engine.proofs.StartLaws.{may_push}
 use Rattle.replay_engine.proofs.starting.irqs_of.Goals as goal
@@ -34,5 +34,5 @@ push-requires-clause-follows c =
     c.requires in
     let is : x ≡ get_or lines i x = get_or_default lines i none x c.loop-line-test.true in
     let same : nat_eq x.task t ≡ true = grind (arith, c.if-line-task.true) in
-    subst (λ (xs : List Irq). CanFollow xs (irq_of x)) (sym c.loop-line.invariant.made)
+    subst (λ (xs : List Irq). CanFollow xs (interrupt_of x)) (sym c.loop-line.invariant.made)
     (may_push t i lines x are c.loop-line-test.true is same).1

@@ -6,7 +6,6 @@ use Rattle.replay_engine.specs.StandsAfter.{StandsAfter}
 use Rattle.replay_engine.specs.View.{view_of}
 use Rattle.replay_engine.proofs.AfterLaws.{counts_after, stands_after}
 use Rattle.replay_engine.proofs.FactLaws.{facts_kept}
-use Rattle.replay_engine.proofs.VisibleLaws.{samples_are_lone, samples_are_given}
 use Rattle.replay_engine.proofs.engine.Engine.perform.Goals as goal
 
 pub invariant_of-self : goal.invariant_of-self
@@ -44,13 +43,3 @@ returns-clause-counts g c = λ accesses steps own within.
     c.args.harts.now c.attempt-result.new.harts c.args.command c.attempt-result.result accesses
     steps own c.requires.command
     c.attempt-result.ensures.outcome before
-
-pub returns-clause-visible : goal.returns-clause-visible
-returns-clause-visible g c = λ tasks commands ordered.
-    samples_are_lone c.lone_run_laws.ensures.visible c.args.self.now.plan tasks commands
-    c.args.command ordered
-
-pub returns-clause-given : goal.returns-clause-given
-returns-clause-given g c = λ tasks commands ordered.
-    samples_are_given c.lone_run_laws.ensures.visible c.args.self.now.plan tasks commands
-    c.args.command ordered

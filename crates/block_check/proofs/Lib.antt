@@ -1,0 +1,3 @@
+mod FaultLemmas
+mod RecordedLemmas
+mod StraightLemmas
