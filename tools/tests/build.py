@@ -16,6 +16,7 @@ class Build(cases.Case):
     def test_the_program_passes_the_examples(self):
         if not shutil.which("rustc"):
             self.skipTest("no rustc")
+        cases.program()
         path = os.path.join(self.folder, "new", "ctrsim")
         status, output, said = cases.tool("build", "-o", path)
         self.assertEqual((status, output, said), (0, "", "build: building without a proof, by rustc ..\n"))
@@ -25,6 +26,16 @@ class Build(cases.Case):
         self.assertEqual((status, said), (0, b""))
         folders = [name for name in os.listdir(EXAMPLES) if os.path.isdir(os.path.join(EXAMPLES, name))]
         self.assertEqual(output.decode().splitlines()[-1], "%d passed, 0 failed" % len(folders))
+        # It writes what the program does that the other tests run, which may be a proved one.
+        queens, streams = os.path.join(cases.DATA, "queens.elf"), []
+        for program in (path, cases.program()):
+            with cases.environment(CTRSIM=program):
+                output = os.path.join(self.folder, "samples")
+                self.assertEqual(cases.tool("record", queens, "--mode", "M,U", "--steps", "60000", "-o", output)[0], 0)
+            with open(output, "rb") as file:
+                streams.append(file.read())
+        self.assertGreater(len(streams[0]), 1000)
+        self.assertEqual(streams[0], streams[1])
         # An example that is shown is what README shows, and the lines of a build aren't among it.
         with cases.environment(CTRSIM=path):
             status, shown, said = cases.run([os.path.join(EXAMPLES, "run"), "--show", "kernel_switch"])

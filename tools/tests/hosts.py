@@ -37,12 +37,23 @@ def waited(is_so):
     return True
 
 
+def is_gone(number):
+    """Whether a process has ended, also where nobody asked yet how."""
+    try:
+        with open("/proc/%d/stat" % number, encoding="ascii", errors="replace") as file:
+            return file.read().rpartition(") ")[2][:1] == "Z"
+    except OSError:
+        return True
+
+
 def end(pids):
-    """Ends daemons by the numbers that they left in files."""
+    """Ends daemons by the numbers that they left in files, and waits for it: they write to the last."""
     for path in pids:
         with contextlib.suppress(OSError, ValueError):
             with open(path, encoding="ascii") as file:
-                os.kill(int(file.read()), signal.SIGTERM)
+                number = int(file.read())
+            os.kill(number, signal.SIGTERM)
+            waited(lambda number=number: is_gone(number))
 
 
 @contextlib.contextmanager
